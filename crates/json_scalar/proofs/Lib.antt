@@ -1,0 +1,9 @@
+mod Options
+mod Powers
+mod Spellings
+mod Cuts
+mod Values
+mod Contents
+mod Lexing
+mod Plain
+mod Decoded

@@ -1,0 +1,14 @@
+pub mod Classes
+pub mod Complete
+pub mod Digits
+pub mod First
+pub mod Numbers
+pub mod Parts
+pub mod Places
+pub mod Run
+pub mod Sound
+pub mod Spelling
+pub mod Steps
+pub mod Strings
+pub mod Theorems
+pub mod Wants

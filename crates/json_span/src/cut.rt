@@ -1,0 +1,70 @@
+// Cutting a text into the members of its object.
+ghost use Rattle.std.specs.Prelude.{◌≡◌, All, IfOk, IsErrOf, IsTrue, ◌↔◌};
+ghost use Rattle.json_span.specs.Members.{AreMembers, IsNoObject, IsDeeper, HasOnlyMembers, IsMemberOf, IsValue, IsSomeObject, NoObjectInFront};
+ghost use Rattle.json_span.specs.Machine.{read_whole};
+
+use crate::machine::Machine;
+use crate::phase::{is_done, run_at};
+use crate::skip::skip;
+use crate::{MAX_DEPTH, MemberList, SpanFault};
+use outside::NoMemory;
+use std::alloc::Global;
+
+/// What the machine makes of the whole text.
+fn read(alloc: Global, text: &[u8]) -> Result<Machine, NoMemory>
+    ensures { IfOk result (λ machine. machine ≡ read_whole text.now) }
+{
+    let mut machine = Machine::new(alloc);
+    let mut at = 0;
+    while at < text.len() {
+        machine.step(text[at], at as u64)?;
+        at += 1;
+        at = skip(text, at, run_at(machine.phase));
+    }
+    Ok(machine)
+}
+
+/// Cuts an object that nests at most `limit` deep into its members, with names that stand twice.
+pub fn members_within(alloc: Global, text: &[u8], limit: usize) -> Result<MemberList, SpanFault>
+    ensures found { IfOk result (AreMembers limit text.now) }
+    ensures only { IfOk result (HasOnlyMembers limit text.now) }
+    ensures parts { IfOk result (All (IsMemberOf text.now)) }
+    ensures not_object { IsErrOf result SpanFault.NotObject → IsNoObject text.now }
+    ensures too_deep { IsErrOf result SpanFault.TooDeep → IsDeeper limit text.now }
+{
+    if !simdutf8::is_utf8(text) {
+        return Err(SpanFault::NotObject);
+    }
+    let machine = read(alloc, text)?;
+    if !is_done(machine.phase) {
+        return Err(SpanFault::NotObject);
+    }
+    if machine.deepest > limit {
+        return Err(SpanFault::TooDeep);
+    }
+    Ok(machine.cutter.members)
+}
+
+/// Cuts an object that nests at most 127 deep into its members, with names that stand twice.
+pub fn members(alloc: Global, text: &[u8]) -> Result<MemberList, SpanFault>
+    ensures found { IfOk result (AreMembers MAX_DEPTH text.now) }
+    ensures only { IfOk result (HasOnlyMembers MAX_DEPTH text.now) }
+    ensures parts { IfOk result (All (IsMemberOf text.now)) }
+    ensures not_object { IsErrOf result SpanFault.NotObject → IsNoObject text.now }
+    ensures too_deep { IsErrOf result SpanFault.TooDeep → IsDeeper MAX_DEPTH text.now }
+{
+    members_within(alloc, text, MAX_DEPTH)
+}
+
+/// Whether a JSON value is an object. It looks at the first byte.
+pub fn is_object(text: &[u8]) -> bool
+    requires { IsValue text.now }
+    ensures { IsTrue result ↔ IsSomeObject text.now }
+{
+    text[0] == b'{'
+}
+
+/// A law: what stands in front of the end of an object is no object, where the end is no white space.
+pub fn no_object_in_front()
+    ensures { NoObjectInFront }
+{}

@@ -1,0 +1,5 @@
+pub mod Event
+pub mod Told
+pub mod Desk
+pub mod Link
+pub mod Status

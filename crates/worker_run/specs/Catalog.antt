@@ -1,0 +1,25 @@
+-- The configured catalogs that are taken: one stream without namespace, read incrementally into an append table.
+use Rattle.std.specs.Prelude.{◌≡◌, ℕ, List, [], ◌∷◌, ◌++◌, None, codes}
+use Rattle.json_fields.specs.Fields.{HasField, HasOptional, HasText}
+
+-- the text is an array of one entry, which may have white space around it
+abbrev pub one_entry : List ℕ → List ℕ
+one_entry entry = 91 ∷ (entry ++ 93 ∷ [])
+
+-- the entry of the only stream
+pub record IsEntry (entry name : List ℕ) : Type 0 where
+  pub stream : List ℕ
+  pub stream_field : HasField entry (codes "stream") stream
+  pub name_text : HasText stream (codes "name") name
+  pub no_namespace : HasOptional stream (codes "namespace") None
+  pub sync_mode : HasText entry (codes "sync_mode") (codes "incremental")
+  pub destination_sync_mode : HasText entry (codes "destination_sync_mode") (codes "append")
+  pub no_generation : HasOptional entry (codes "generation_id") None
+
+-- the text is a catalog with this stream alone
+pub record IsCatalog (text name : List ℕ) : Type 0 where
+  pub streams : List ℕ
+  pub field : HasField text (codes "streams") streams
+  pub entry : List ℕ
+  pub single : streams ≡ one_entry entry
+  pub is : IsEntry entry name

@@ -1,0 +1,9 @@
+pub mod Bounds
+pub mod Words
+pub mod Catalog
+pub mod Rounds
+pub mod Store
+pub mod World
+pub mod Output
+pub mod Steps
+pub mod Ends

@@ -1,0 +1,166 @@
+// The lines that the worker says.
+ghost use Rattle.std.specs.Prelude.{◌≡◌, ◌++◌, ◌∷◌, [], IfOk, OnOk, IsErrOf, codes};
+ghost use Rattle.worker_run.specs.Output.{usage_line, saved_line, row_line, attempt_line, status_line, table_line};
+ghost use Rattle.outside.specs.Status.{status_text};
+ghost use Rattle.outside.specs.Told.{told_more, RoseIf};
+ghost use Rattle.outside.specs.Desk.{SaidOrNot};
+
+use outside::{Bytes, Desk, Event, EventList, Fault, Name, NoMemory, RawRow, Status};
+use std::alloc::Global;
+
+/// Two texts, one behind the other.
+fn joined(alloc: Global, front: &[u8], back: &[u8]) -> Result<Bytes, NoMemory>
+    ensures { IfOk result (λ text. text ≡ front.now ++ back.now) }
+{
+    let mut text = Vec::new(alloc);
+    text.extend_from_slice(front)?;
+    text.extend_from_slice(back)?;
+    Ok(Bytes::from_vec(text))
+}
+
+/// Says a front and what follows it as one line.
+pub fn say_joined<K: Desk>(
+    alloc: Global,
+    desk: &mut K,
+    front: &[u8],
+    back: &[u8],
+) -> Result<(), Fault>
+    ensures ok { OnOk result (K.said desk.new ≡ told_more ((front.now ++ back.now) ∷ []) (K.said desk.old)) }
+    ensures whole_or_nothing { SaidOrNot (front.now ++ back.now) (K.said desk.old) (K.said desk.new) }
+    ensures no_memory { IsErrOf result Fault.NoMemory → K.said desk.new ≡ K.said desk.old }
+    ensures faults { RoseIf (IsErrOf result Fault.Failed) (K.say_faults desk.old) (K.say_faults desk.new) }
+    ensures read_faults { K.read_faults desk.new ≡ K.read_faults desk.old }
+    ensures texts { K.texts desk.new ≡ K.texts desk.old }
+{
+    let line = joined(alloc, front, back)?;
+    desk.say(line.as_slice())
+}
+
+// Says a text.
+fn say_text<K: Desk>(desk: &mut K, text: &str) -> Result<(), Fault>
+    ensures ok { OnOk result (K.said desk.new ≡ told_more (text.now ∷ []) (K.said desk.old)) }
+    ensures whole_or_nothing { SaidOrNot text.now (K.said desk.old) (K.said desk.new) }
+    ensures no_memory { IsErrOf result Fault.NoMemory → K.said desk.new ≡ K.said desk.old }
+    ensures faults { RoseIf (IsErrOf result Fault.Failed) (K.say_faults desk.old) (K.say_faults desk.new) }
+    ensures read_faults { K.read_faults desk.new ≡ K.read_faults desk.old }
+    ensures texts { K.texts desk.new ≡ K.texts desk.old }
+{
+    desk.say(text.as_bytes())
+}
+
+/// Says the usage text.
+pub fn say_usage<K: Desk>(desk: &mut K) -> Result<(), Fault>
+    ensures ok { OnOk result (K.said desk.new ≡ told_more (usage_line ∷ []) (K.said desk.old)) }
+    ensures whole_or_nothing { SaidOrNot (usage_line) (K.said desk.old) (K.said desk.new) }
+    ensures no_memory { IsErrOf result Fault.NoMemory → K.said desk.new ≡ K.said desk.old }
+    ensures faults { RoseIf (IsErrOf result Fault.Failed) (K.say_faults desk.old) (K.say_faults desk.new) }
+    ensures read_faults { K.read_faults desk.new ≡ K.read_faults desk.old }
+    ensures texts { K.texts desk.new ≡ K.texts desk.old }
+{
+    say_text(desk, "usage: airbyte_worker local --messages F --catalog F")
+}
+
+/// Says that a state was saved.
+pub fn say_saved<K: Desk>(alloc: Global, desk: &mut K, object: &[u8]) -> Result<(), Fault>
+    ensures ok { OnOk result (K.said desk.new ≡ told_more (saved_line object.now ∷ []) (K.said desk.old)) }
+    ensures whole_or_nothing { SaidOrNot (saved_line object.now) (K.said desk.old) (K.said desk.new) }
+    ensures no_memory { IsErrOf result Fault.NoMemory → K.said desk.new ≡ K.said desk.old }
+    ensures faults { RoseIf (IsErrOf result Fault.Failed) (K.say_faults desk.old) (K.say_faults desk.new) }
+    ensures read_faults { K.read_faults desk.new ≡ K.read_faults desk.old }
+    ensures texts { K.texts desk.new ≡ K.texts desk.old }
+{
+    say_joined(alloc, desk, b"saved ", object)
+}
+
+// Says a front and a status.
+fn say_ending<K: Desk>(
+    alloc: Global,
+    desk: &mut K,
+    front: &[u8],
+    status: Status,
+) -> Result<(), Fault>
+    ensures ok { OnOk result (K.said desk.new ≡ told_more ((front.now ++ status_text status) ∷ []) (K.said desk.old)) }
+    ensures whole_or_nothing { SaidOrNot (front.now ++ status_text status) (K.said desk.old) (K.said desk.new) }
+    ensures no_memory { IsErrOf result Fault.NoMemory → K.said desk.new ≡ K.said desk.old }
+    ensures faults { RoseIf (IsErrOf result Fault.Failed) (K.say_faults desk.old) (K.say_faults desk.new) }
+    ensures read_faults { K.read_faults desk.new ≡ K.read_faults desk.old }
+    ensures texts { K.texts desk.new ≡ K.texts desk.old }
+{
+    let text = status.text(alloc)?;
+    say_joined(alloc, desk, front, text.as_slice())
+}
+
+/// Says how the attempt ended.
+pub fn say_attempt<K: Desk>(alloc: Global, desk: &mut K, status: Status) -> Result<(), Fault>
+    ensures ok { OnOk result (K.said desk.new ≡ told_more (attempt_line status ∷ []) (K.said desk.old)) }
+    ensures whole_or_nothing { SaidOrNot (attempt_line status) (K.said desk.old) (K.said desk.new) }
+    ensures no_memory { IsErrOf result Fault.NoMemory → K.said desk.new ≡ K.said desk.old }
+    ensures faults { RoseIf (IsErrOf result Fault.Failed) (K.say_faults desk.old) (K.say_faults desk.new) }
+    ensures read_faults { K.read_faults desk.new ≡ K.read_faults desk.old }
+    ensures texts { K.texts desk.new ≡ K.texts desk.old }
+{
+    say_ending(alloc, desk, b"attempt 1: ", status)
+}
+
+/// Says how the run ended.
+pub fn say_status<K: Desk>(alloc: Global, desk: &mut K, status: Status) -> Result<(), Fault>
+    ensures ok { OnOk result (K.said desk.new ≡ told_more (status_line status ∷ []) (K.said desk.old)) }
+    ensures whole_or_nothing { SaidOrNot (status_line status) (K.said desk.old) (K.said desk.new) }
+    ensures no_memory { IsErrOf result Fault.NoMemory → K.said desk.new ≡ K.said desk.old }
+    ensures faults { RoseIf (IsErrOf result Fault.Failed) (K.say_faults desk.old) (K.say_faults desk.new) }
+    ensures read_faults { K.read_faults desk.new ≡ K.read_faults desk.old }
+    ensures texts { K.texts desk.new ≡ K.texts desk.old }
+{
+    say_ending(alloc, desk, b"status ", status)
+}
+
+// Says the number of rows of a table.
+fn say_table<K: Desk>(
+    alloc: Global,
+    desk: &mut K,
+    stream: &Name,
+    rows: u64,
+) -> Result<(), Fault>
+    ensures ok { OnOk result (K.said desk.new ≡ told_more (table_line stream.now rows ∷ []) (K.said desk.old)) }
+    ensures whole_or_nothing { SaidOrNot (table_line stream.now rows) (K.said desk.old) (K.said desk.new) }
+    ensures no_memory { IsErrOf result Fault.NoMemory → K.said desk.new ≡ K.said desk.old }
+    ensures faults { RoseIf (IsErrOf result Fault.Failed) (K.say_faults desk.old) (K.say_faults desk.new) }
+    ensures read_faults { K.read_faults desk.new ≡ K.read_faults desk.old }
+    ensures texts { K.texts desk.new ≡ K.texts desk.old }
+{
+    let text = format!(in alloc; "{} rows {rows}", stream.as_str())?;
+    say_joined(alloc, desk, b"table ", text.as_bytes())
+}
+
+/// Says a table: the number of its rows, and each row that was committed, in order.
+pub fn say_rows<K: Desk>(
+    alloc: Global,
+    desk: &mut K,
+    stream: &Name,
+    rows: u64,
+    events: &EventList,
+) -> Result<(), Fault>
+    ensures faults { RoseIf (IsErrOf result Fault.Failed) (K.say_faults desk.old) (K.say_faults desk.new) }
+    ensures read_faults { K.read_faults desk.new ≡ K.read_faults desk.old }
+    ensures texts { K.texts desk.new ≡ K.texts desk.old }
+{
+    say_table(alloc, desk, stream, rows)?;
+    for event in events.as_slice() {
+        if let Event::Committed { rows, .. } = event {
+            say_bodies(alloc, desk, rows.as_slice())?;
+        }
+    }
+    Ok(())
+}
+
+// Says the bodies of rows.
+fn say_bodies<K: Desk>(alloc: Global, desk: &mut K, rows: &[RawRow]) -> Result<(), Fault>
+    ensures faults { RoseIf (IsErrOf result Fault.Failed) (K.say_faults desk.old) (K.say_faults desk.new) }
+    ensures read_faults { K.read_faults desk.new ≡ K.read_faults desk.old }
+    ensures texts { K.texts desk.new ≡ K.texts desk.old }
+{
+    for row in rows {
+        say_joined(alloc, desk, b"row ", row.body.as_slice())?;
+    }
+    Ok(())
+}
