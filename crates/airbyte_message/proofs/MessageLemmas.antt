@@ -1,5 +1,5 @@
 -- Answers from answers: a message has one from those of its members, and an echo grows by one member at a time.
-use Rattle.std.proofs.Common.{◌≡◌, ◌⊎◌, inl, inr, ℕ, List, [], ◌∷◌, ◌++◌, Option, None, Some, refl, sym, ◌∙◌, ap, subst, arith, ◌<◌, ◌≤◌, ◌+◌, ◌^◌, length, take, slice_index_or, codes, flat_map, IfSome, IfNone, IfOk, Result, Ok, Bool, true, false, not, bytes_eq}
+use Rattle.std.proofs.Common.{◌≡◌, ◌⊎◌, inl, inr, ℕ, List, [], ◌∷◌, ◌++◌, Option, None, Some, refl, sym, ◌∙◌, ap, subst, arith, ◌<◌, ◌≤◌, ◌+◌, ◌^◌, length, take, slice_index_or, codes, IfSome, IfNone, IfOk, Result, Ok, Bool, true, false, bytes_eq}
 use Rattle.std.proofs.lemmas.List.{take_more, flat_map_more}
 use Rattle.std.proofs.lemmas.Slice.Eq.{bytes_eq-Decides}
 use Rattle.outside.specs.declared.memory.NoMemory.{NoMemory}
@@ -10,7 +10,7 @@ use Rattle.json_span.specs.declared.Member.{Member}
 use Rattle.outside.specs.declared.event.StreamId.{StreamId}
 use Rattle.json_fields.specs.Answer.{IsAnswer, IsOnly}
 use Rattle.json_fields.specs.Fields.{IsNamed, HasField, HasOptional, HasText, HasOptionalText, line_depth}
-use Rattle.airbyte_message.specs.Messages.{IsCount, HasCount, HasObject, IsStreamId, IsRecord, IsOptionalCount, IsStats, AreOptionalStats, HasStats, IsStreamState, IsKind, NestsWithin, IsState, IsTyped, IsRecordLine, IsStateLine, IsMessage, state_depth}
+use Rattle.airbyte_message.specs.Messages.{IsCount, HasCount, HasObject, IsStreamId, IsRecord, IsOptionalCount, IsStats, AreOptionalStats, HasStats, IsStreamState, IsKind, NestsWithin, IsState, IsRecordLine, IsStateLine, IsMessage, state_depth}
 use Rattle.airbyte_message.specs.Echo.{Without, PushesKept, member_text}
 use Rattle.airbyte_message.specs.declared.message.Message.{Message}
 use Rattle.airbyte_message.specs.declared.message.Message.TheVariants as message
@@ -23,17 +23,17 @@ use Rattle.airbyte_message.specs.declared.message.StateKind.TheVariants as kind
 pub count_answer : (held : List ℕ) (found : Option ℕ) → IfSome found (IsWhole held) → IfSome found (λ n. n < 2 ^ 63) → IfSome found (λ n. (m : ℕ) → IsWhole held m → m ≡ n) → IfNone found ((n : ℕ) → n < 2 ^ 63 → ¬ IsWhole held n) → IsAnswer (IsCount held) found
 count_answer held None whole small only none = λ count is. none count is.small is.whole
 count_answer held (Some n) whole small only none = record {
-    is = record { whole = whole; small = small };
-    only = λ other is. only other is.whole;
-  }
+  is = record { whole = whole; small = small };
+  only = λ other is. only other is.whole;
+}
 
 -- a count in a member
 pub has_count : (text name held : List ℕ) (found : Option ℕ) → IsOnly (HasField text name) held → IsAnswer (IsCount held) found → IsAnswer (HasCount text name) found
 has_count text name held None field count = λ n has. count n (subst (λ (h : List ℕ). IsCount h n) (field.only has.held has.field) has.is)
 has_count text name held (Some n) field count = record {
-    is = record { held = held; field = field.is; is = count.is };
-    only = λ other has. count.only other (subst (λ (h : List ℕ). IsCount h other) (field.only has.held has.field) has.is);
-  }
+  is = record { held = held; field = field.is; is = count.is };
+  only = λ other has. count.only other (subst (λ (h : List ℕ). IsCount h other) (field.only has.held has.field) has.is);
+}
 
 pub count_absent : (text name : List ℕ) → IsAnswer (HasField text name) None → IsAnswer (HasCount text name) None
 count_absent text name field = λ n has. field has.held has.field
@@ -41,9 +41,9 @@ count_absent text name field = λ n has. field has.held has.field
 -- an object in a member
 pub object_yes : (text name held : List ℕ) → IsOnly (HasField text name) held → IsSomeObject held → IsOnly (HasObject text name) held
 object_yes text name held field object = record {
-    is = record { field = field.is; object = object };
-    only = λ other has. field.only other has.field;
-  }
+  is = record { field = field.is; object = object };
+  only = λ other has. field.only other has.field;
+}
 
 pub object_no : (text name held : List ℕ) → IsOnly (HasField text name) held → ¬ IsSomeObject held → IsAnswer (HasObject text name) None
 object_no text name held field none = λ other has. none (subst IsSomeObject (field.only other has.field) has.object)
@@ -57,9 +57,9 @@ stream_id name namespace = record { name = name; namespace = namespace }
 
 pub stream_id_answer : (text member name : List ℕ) (namespace : Option (List ℕ)) → IsOnly (HasText text member) name → IsOnly (HasOptionalText text (codes "namespace")) namespace → IsOnly (IsStreamId text member) (stream_id name namespace)
 stream_id_answer text member name namespace named spaced = record {
-    is = record { name = named.is; namespace = spaced.is };
-    only = λ other is. ap (λ (n : List ℕ). stream_id n other.namespace) (named.only other.name is.name) ∙ ap (λ (n : Option (List ℕ)). stream_id name n) (spaced.only other.namespace is.namespace);
-  }
+  is = record { name = named.is; namespace = spaced.is };
+  only = λ other is. ap (λ (n : List ℕ). stream_id n other.namespace) (named.only other.name is.name) ∙ ap (λ (n : Option (List ℕ)). stream_id name n) (spaced.only other.namespace is.namespace);
+}
 
 pub stream_id_unnamed : (text member : List ℕ) → IsAnswer (HasText text member) None → IsAnswer (IsStreamId text member) None
 stream_id_unnamed text member named = λ id is. named id.name is.name
@@ -73,9 +73,9 @@ record_msg id body emitted_at meta = record { id = id; body = body; emitted_at =
 
 pub record_answer : (text : List ℕ) (id : StreamId) (body : List ℕ) (emitted_at : ℕ) (meta : Option (List ℕ)) → IsOnly (IsStreamId text (codes "stream")) id → IsOnly (HasObject text (codes "data")) body → IsOnly (HasCount text (codes "emitted_at")) emitted_at → IsOnly (HasOptional text (codes "meta")) meta → IsOnly (IsRecord text) (record_msg id body emitted_at meta)
 record_answer text id body emitted_at meta id_is body_is emitted_is meta_is = record {
-    is = record { id = id_is.is; body = body_is.is; emitted_at = emitted_is.is; meta = meta_is.is };
-    only = λ other is. same other (id_is.only other.id is.id) (body_is.only other.body is.body) (emitted_is.only other.emitted_at is.emitted_at) (meta_is.only other.meta is.meta);
-  }
+  is = record { id = id_is.is; body = body_is.is; emitted_at = emitted_is.is; meta = meta_is.is };
+  only = λ other is. same other (id_is.only other.id is.id) (body_is.only other.body is.body) (emitted_is.only other.emitted_at is.emitted_at) (meta_is.only other.meta is.meta);
+}
   where
     same : (other : RecordMsg) → other.id ≡ id → other.body ≡ body → other.emitted_at ≡ emitted_at → other.meta ≡ meta → other ≡ record_msg id body emitted_at meta
     same other e f g h = ap (λ (i : StreamId). record_msg i other.body other.emitted_at other.meta) e ∙ (ap (λ (b : List ℕ). record_msg id b other.emitted_at other.meta) f ∙ (ap (λ (n : ℕ). record_msg id body n other.meta) g ∙ ap (λ (m : Option (List ℕ)). record_msg id body emitted_at m) h))
@@ -113,15 +113,15 @@ optional_count_none held (Some m) none is = none m is
 
 pub stats_absent : (text : List ℕ) → IsOnly (HasOptional text (codes "recordCount")) None → IsOnly (IsStats text) None
 stats_absent text optional = record {
-    is = record { held = None; optional = optional.is; is = refl };
-    only = λ other is. optional_count_absent is.held other (optional.only is.held is.optional) is.is;
-  }
+  is = record { held = None; optional = optional.is; is = refl };
+  only = λ other is. optional_count_absent is.held other (optional.only is.held is.optional) is.is;
+}
 
 pub stats_told : (text held : List ℕ) (n : ℕ) → IsOnly (HasOptional text (codes "recordCount")) (Some held) → IsOnly (IsCount held) n → IsOnly (IsStats text) (Some n)
 stats_told text held n optional count = record {
-    is = record { held = Some held; optional = optional.is; is = count.is };
-    only = λ other is. optional_count_only held n other count (optional_count_told held is.held other (optional.only is.held is.optional) is.is);
-  }
+  is = record { held = Some held; optional = optional.is; is = count.is };
+  only = λ other is. optional_count_only held n other count (optional_count_told held is.held other (optional.only is.held is.optional) is.is);
+}
 
 pub stats_uncounted : (text held : List ℕ) → IsOnly (HasOptional text (codes "recordCount")) (Some held) → IsAnswer (IsCount held) None → IsAnswer (IsStats text) None
 stats_uncounted text held optional none = λ other is. optional_count_none held other none (optional_count_told held is.held other (optional.only is.held is.optional) is.is)
@@ -132,16 +132,16 @@ optional_stats_absent (Some held) count e is = absurd (cc)
 
 pub has_stats_absent : (text : List ℕ) → IsOnly (HasOptional text (codes "sourceStats")) None → IsOnly (HasStats text) None
 has_stats_absent text optional = record {
-    is = record { held = None; optional = optional.is; stats = refl };
-    only = λ other is. optional_stats_absent is.held other (optional.only is.held is.optional) is.stats;
-  }
+  is = record { held = None; optional = optional.is; stats = refl };
+  only = λ other is. optional_stats_absent is.held other (optional.only is.held is.optional) is.stats;
+}
 
 pub has_stats : (text stats : List ℕ) (found : Option (Option ℕ)) → IsOnly (HasOptional text (codes "sourceStats")) (Some stats) → IsAnswer (IsStats stats) found → IsAnswer (HasStats text) found
 has_stats text stats None optional none = λ other is. none other (subst (λ (h : Option (List ℕ)). AreOptionalStats h other) (optional.only is.held is.optional) is.stats)
 has_stats text stats (Some count) optional only = record {
-    is = record { held = Some stats; optional = optional.is; stats = only.is };
-    only = λ other is. only.only other (subst (λ (h : Option (List ℕ)). AreOptionalStats h other) (optional.only is.held is.optional) is.stats);
-  }
+  is = record { held = Some stats; optional = optional.is; stats = only.is };
+  only = λ other is. only.only other (subst (λ (h : Option (List ℕ)). AreOptionalStats h other) (optional.only is.held is.optional) is.stats);
+}
 
 -- the kind of a state
 kind_only : (text descriptor : List ℕ) (id : StreamId) (blob : Option (List ℕ)) (other : StateKind) → IsOnly (HasField text (codes "stream_descriptor")) descriptor → IsOnly (IsStreamId descriptor (codes "name")) id → IsOnly (HasOptional text (codes "stream_state")) blob → IsKind text other → other ≡ kind.Stream id blob
@@ -152,9 +152,9 @@ kind_only text descriptor id blob (kind.Stream other_id other_blob) field stream
 
 pub kind_answer : (text descriptor : List ℕ) (id : StreamId) (blob : Option (List ℕ)) → IsOnly (HasField text (codes "stream_descriptor")) descriptor → IsOnly (IsStreamId descriptor (codes "name")) id → IsOnly (HasOptional text (codes "stream_state")) blob → IsOnly (IsKind text) (kind.Stream id blob)
 kind_answer text descriptor id blob field stream state = record {
-    is = record { descriptor = descriptor; field = field.is; stream = stream.is; state = state.is };
-    only = λ other is. kind_only text descriptor id blob other field stream state is;
-  }
+  is = record { descriptor = descriptor; field = field.is; stream = stream.is; state = state.is };
+  only = λ other is. kind_only text descriptor id blob other field stream state is;
+}
 
 kind_none : (text : List ℕ) (other : StateKind) → ((id : StreamId) (blob : Option (List ℕ)) → ¬ IsStreamState text id blob) → IsKind text other → ⊥
 kind_none text (kind.Stream id blob) none is = none id blob is
@@ -179,9 +179,9 @@ state_msg object what source_count = record { object = object; kind = what; sour
 
 pub state_answer : (text stream : List ℕ) (members : List Member) (what : StateKind) (count : Option ℕ) → AreMembers state_depth text members → HasText text (codes "type") (codes "STREAM") → IsOnly (HasField text (codes "stream")) stream → IsOnly (IsKind stream) what → IsOnly (HasStats text) count → IsOnly (IsState text) (state_msg text what count)
 state_answer text stream members what count nests typed field kind_is count_is = record {
-    is = record { object = refl; nests = record { members = members; object = nests }; type = typed; stream = stream; stream_field = field.is; kind = kind_is.is; count = count_is.is };
-    only = λ other is. same other is.object (kind_is.only other.kind (subst (λ (s : List ℕ). IsKind s other.kind) (field.only is.stream is.stream_field) is.kind)) (count_is.only other.source_count is.count);
-  }
+  is = record { object = refl; nests = record { members = members; object = nests }; type = typed; stream = stream; stream_field = field.is; kind = kind_is.is; count = count_is.is };
+  only = λ other is. same other is.object (kind_is.only other.kind (subst (λ (s : List ℕ). IsKind s other.kind) (field.only is.stream is.stream_field) is.kind)) (count_is.only other.source_count is.count);
+}
   where
     same : (other : StateMsg) → other.object ≡ text → other.kind ≡ what → other.source_count ≡ count → other ≡ state_msg text what count
     same other e f g = ap (λ (o : List ℕ). state_msg o other.kind other.source_count) e ∙ (ap (λ (k : StateKind). state_msg text k other.source_count) f ∙ ap (λ (n : Option ℕ). state_msg text what n) g)
@@ -205,9 +205,9 @@ state_no_count text none = λ other is. none other.source_count is.count
 pub record_line_answer : (line payload : List ℕ) (found : Option RecordMsg) → HasText line (codes "type") (codes "RECORD") → IsOnly (HasField line (codes "record")) payload → IsAnswer (IsRecord payload) found → IsAnswer (IsRecordLine line) found
 record_line_answer line payload None typed field none = λ other is. none other (subst (λ (p : List ℕ). IsRecord p other) (field.only is.payload is.typed.field) is.is)
 record_line_answer line payload (Some content) typed field only = record {
-    is = record { payload = payload; typed = record { type = typed; field = field.is }; is = only.is };
-    only = λ other is. only.only other (subst (λ (p : List ℕ). IsRecord p other) (field.only is.payload is.typed.field) is.is);
-  }
+  is = record { payload = payload; typed = record { type = typed; field = field.is }; is = only.is };
+  only = λ other is. only.only other (subst (λ (p : List ℕ). IsRecord p other) (field.only is.payload is.typed.field) is.is);
+}
 
 pub record_line_absent : (line : List ℕ) → IsAnswer (HasField line (codes "record")) None → IsAnswer (IsRecordLine line) None
 record_line_absent line field = λ other is. field is.payload is.typed.field
@@ -215,9 +215,9 @@ record_line_absent line field = λ other is. field is.payload is.typed.field
 pub state_line_answer : (line payload : List ℕ) (found : Option StateMsg) → HasText line (codes "type") (codes "STATE") → IsOnly (HasField line (codes "state")) payload → IsAnswer (IsState payload) found → IsAnswer (IsStateLine line) found
 state_line_answer line payload None typed field none = λ other is. none other (subst (λ (p : List ℕ). IsState p other) (field.only is.payload is.typed.field) is.is)
 state_line_answer line payload (Some state) typed field only = record {
-    is = record { payload = payload; typed = record { type = typed; field = field.is }; is = only.is };
-    only = λ other is. only.only other (subst (λ (p : List ℕ). IsState p other) (field.only is.payload is.typed.field) is.is);
-  }
+  is = record { payload = payload; typed = record { type = typed; field = field.is }; is = only.is };
+  only = λ other is. only.only other (subst (λ (p : List ℕ). IsState p other) (field.only is.payload is.typed.field) is.is);
+}
 
 pub state_line_absent : (line : List ℕ) → IsAnswer (HasField line (codes "state")) None → IsAnswer (IsStateLine line) None
 state_line_absent line field = λ other is. field is.payload is.typed.field
@@ -250,9 +250,9 @@ no_record line name typed e = λ content of. types_apart name (sym (typed.only (
 
 pub message_record : (line name : List ℕ) (content : RecordMsg) → IsOnly (HasText line (codes "type")) name → name ≡ codes "RECORD" → IsOnly (IsRecordLine line) content → IsOnly (IsMessage line) (message.Rec content)
 message_record line name content typed e only = record {
-    is = only.is;
-    only = λ other is. same other is;
-  }
+  is = only.is;
+  only = λ other is. same other is;
+}
   where
     same : (other : Message) → IsMessage line other → other ≡ message.Rec content
     same (message.Rec found) is = ap (λ (r : RecordMsg). message.Rec r) (only.only found is)
@@ -263,9 +263,9 @@ message_no_record line name typed e none = λ other is. message_none line other 
 
 pub message_state : (line name : List ℕ) (state : StateMsg) → IsOnly (HasText line (codes "type")) name → name ≡ codes "STATE" → IsOnly (IsStateLine line) state → IsOnly (IsMessage line) (message.State state)
 message_state line name state typed e only = record {
-    is = only.is;
-    only = λ other is. same other is;
-  }
+  is = only.is;
+  only = λ other is. same other is;
+}
   where
     same : (other : Message) → IsMessage line other → other ≡ message.State state
     same (message.Rec found) is = absurd (no_record line name typed e found is)
@@ -289,10 +289,10 @@ Without-kept text name (x ∷ members) kept m h other = (h.0 ++ m ∷ [], Withou
 
 pub pushes_dropped : (object : List ℕ) (members : List Member) (i : ℕ) (d : Member) (key before now : List ℕ) → i < length members → key ≡ text_at object (slice_index_or members i d).key → IsString key (codes "destinationStats") → PushesKept object (take i members) before now → PushesKept object (take (i + 1) members) before now
 pushes_dropped object members i d key before now lt is named h = record {
-    kept = h.kept;
-    without = subst (λ (ms : List Member). Without object (codes "destinationStats") ms h.kept) (sym (take_more members i d lt)) (Without-dropped object (codes "destinationStats") (take i members) h.kept (slice_index_or members i d) h.without (subst (λ (k : List ℕ). IsString k (codes "destinationStats")) is named));
-    grew = h.grew;
-  }
+  kept = h.kept;
+  without = subst (λ (ms : List Member). Without object (codes "destinationStats") ms h.kept) (sym (take_more members i d lt)) (Without-dropped object (codes "destinationStats") (take i members) h.kept (slice_index_or members i d) h.without (subst (λ (k : List ℕ). IsString k (codes "destinationStats")) is named));
+  grew = h.grew;
+}
 
 pub pushes_kept : (object : List ℕ) (members : List Member) (i : ℕ) (d : Member) (key before now after : List ℕ) → i < length members → key ≡ text_at object (slice_index_or members i d).key → ¬ IsString key (codes "destinationStats") → after ≡ now ++ member_text object (slice_index_or members i d) → PushesKept object (take i members) before now → PushesKept object (take (i + 1) members) before after
 pushes_kept object members i d key before now after lt is other pushed h =

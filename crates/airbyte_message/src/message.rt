@@ -4,9 +4,9 @@ ghost use Rattle.json_fields.specs.Answer.{IsAnswer};
 ghost use Rattle.json_fields.specs.Fields.{HasText, IsCut};
 ghost use Rattle.airbyte_message.specs.Messages.{IsMessage, IsRecordLine, IsStateLine};
 
-use json_fields::{cut, field, text_field};
 use crate::record_message::record_of;
 use crate::state_message::state_of;
+use json_fields::{cut, field, text_field};
 use json_span::{MAX_DEPTH, MemberList};
 use outside::{Bytes, NoMemory, StreamId};
 use std::alloc::Global;

@@ -4,9 +4,9 @@ ghost use Rattle.json_fields.specs.Answer.{IsAnswer};
 ghost use Rattle.json_fields.specs.Fields.{IsCut};
 ghost use Rattle.airbyte_message.specs.Messages.{IsState, IsStats, HasStats, IsKind};
 
-use json_fields::{cut, field, has_text, optional};
 use crate::record_message::{copied, stream_id_of};
 use crate::{StateKind, StateMsg};
+use json_fields::{cut, field, has_text, optional};
 use json_span::{MAX_DEPTH, MemberList, whole_of};
 use outside::{Bytes, NoMemory};
 use std::alloc::Global;

@@ -44,23 +44,23 @@ holds-of_field text name members held cut field = subst (λ (ms : List Member). 
 pub field_answer : (text name : List ℕ) (members : List Member) (found : Option (List ℕ)) → IsCut text members → IsOnly (Holds text name members) found → IsAnswer (HasField text name) found
 field_answer text name members None cut only = λ held field. None-Some held (only.only (Some held) (holds-of_field text name members held cut field))
 field_answer text name members (Some held) cut only = record {
-    is = record { members = members; object = cut.are; holds = only.is };
-    only = λ other field. Some-injective other held (only.only (Some other) (holds-of_field text name members other cut field));
-  }
+  is = record { members = members; object = cut.are; holds = only.is };
+  only = λ other field. Some-injective other held (only.only (Some other) (holds-of_field text name members other cut field));
+}
 
 pub optional_only : (text name : List ℕ) (members : List Member) (found : Option (List ℕ)) → IsCut text members → IsOnly (Holds text name members) found → IsOnly (HasOptional text name) (present found)
 optional_only text name members found cut only = record {
-    is = record { members = members; object = cut.are; held = found; holds = only.is; is = refl };
-    only = λ other optional. optional.is ∙ ap present (only.only optional.held (subst (λ (ms : List Member). Holds text name ms optional.held) (cut.only optional.members optional.object) optional.holds));
-  }
+  is = record { members = members; object = cut.are; held = found; holds = only.is; is = refl };
+  only = λ other optional. optional.is ∙ ap present (only.only optional.held (subst (λ (ms : List Member). Holds text name ms optional.held) (cut.only optional.members optional.object) optional.holds));
+}
 
 -- a text field, where the field is there and where it is not
 pub text_answer : (text name held : List ℕ) (meaning : Option (List ℕ)) → IsOnly (HasField text name) held → IsAnswer (IsString held) meaning → IsAnswer (HasText text name) meaning
 text_answer text name held None field string = λ meaning has. string meaning (subst (λ (h : List ℕ). IsString h meaning) (field.only has.held has.field) has.string)
 text_answer text name held (Some meaning) field string = record {
-    is = record { held = held; field = field.is; string = string.is };
-    only = λ other has. string.only other (subst (λ (h : List ℕ). IsString h other) (field.only has.held has.field) has.string);
-  }
+  is = record { held = held; field = field.is; string = string.is };
+  only = λ other has. string.only other (subst (λ (h : List ℕ). IsString h other) (field.only has.held has.field) has.string);
+}
 
 pub text_absent : (text name : List ℕ) → IsAnswer (HasField text name) None → IsAnswer (HasText text name) None
 text_absent text name field = λ meaning has. field has.held has.field
@@ -68,9 +68,9 @@ text_absent text name field = λ meaning has. field has.held has.field
 -- an optional text
 pub optional_text_absent : (text name : List ℕ) → IsOnly (HasOptional text name) None → IsAnswer (HasOptionalText text name) (Some None)
 optional_text_absent text name optional = record {
-    is = record { held = None; optional = optional.is; string = refl };
-    only = λ other has. absent other has.held (optional.only has.held has.optional) has.string;
-  }
+  is = record { held = None; optional = optional.is; string = refl };
+  only = λ other has. absent other has.held (optional.only has.held has.optional) has.string;
+}
   where
     absent : (other : Option (List ℕ)) (held : Option (List ℕ)) → held ≡ None → IsOptionalText held other → other ≡ None
     absent other None e string = string
@@ -89,11 +89,11 @@ pub optional_text_answer : (text name held : List ℕ) (meaning : Option (List �
 optional_text_answer text name held None optional string = λ other has.
     let found = string_of_optional held has.held other (optional.only has.held has.optional) has.string in string found.0 found.2
 optional_text_answer text name held (Some meaning) optional string = record {
-    is = record { held = Some held; optional = optional.is; string = string.is };
-    only = λ other has.
+  is = record { held = Some held; optional = optional.is; string = string.is };
+  only = λ other has.
       let found = string_of_optional held has.held other (optional.only has.held has.optional) has.string in
       found.1 ∙ ap (λ (t : List ℕ). Some t) (string.only found.0 found.2);
-  }
+}
 
 -- a loop over the members goes on by one
 pub Holds-step_named : (text name : List ℕ) (members : List Member) (i : ℕ) (d : Member) (key : List ℕ) (found : Option (List ℕ)) → i < length members → key ≡ text_at text (slice_index_or members i d).key → IsString key name → Holds text name (take i members) found → Holds text name (take (i + 1) members) (Some (text_at text (slice_index_or members i d).value))
@@ -117,7 +117,6 @@ pub optional_none : (text name : List ℕ) (members : List Member) (found : Opti
 optional_none text name members found cut only e =
     subst (λ (f : Option (List ℕ)). IsOnly (HasOptional text name) f) (ap present e) (optional_only text name members found cut only)
 
-
 -- what `text_of` ensures is an answer
 pub string_found : (text : List ℕ) (found : Option (List ℕ)) → IfSome found (IsString text) → IfSome found (λ name. (meaning : List ℕ) → IsString text meaning → meaning ≡ name) → IfNone found (IsNoString text) → IsAnswer (IsString text) found
 string_found text None string only none = none
@@ -130,9 +129,9 @@ string_answer text (Err fault) string only none = tt
 -- whether a text field stands for this, where the field is there and where it is not
 pub has_text_iff : (text name meaning held : List ℕ) (is : Bool) → IsOnly (HasField text name) held → IsTrue is ↔ IsString held meaning → IsTrue is ↔ HasText text name meaning
 has_text_iff text name meaning held is field string = (
-    λ yes. record { held = held; field = field.is; string = string.0 yes },
-    λ has. string.1 (subst (λ (h : List ℕ). IsString h meaning) (field.only has.held has.field) has.string)
-  )
+  λ yes. record { held = held; field = field.is; string = string.0 yes },
+  λ has. string.1 (subst (λ (h : List ℕ). IsString h meaning) (field.only has.held has.field) has.string),
+)
 
 pub has_text_absent : (text name meaning : List ℕ) → IsAnswer (HasField text name) None → IsTrue false ↔ HasText text name meaning
 has_text_absent text name meaning field = (λ yes. absurd (not_true yes), λ has. absurd (field has.held has.field))

@@ -120,7 +120,10 @@ pub enum Event {
     /// The destination reached the end of its input.
     TookEnd,
     /// Rows of a stream were committed.
-    Committed { stream: StreamNo, rows: RawRowList },
+    Committed {
+        stream: StreamNo,
+        rows: RawRowList,
+    },
     /// The destination wrote a line.
     Emitted(Bytes),
     /// The winners of a stream were merged, up to the row at `mark`.

@@ -16,7 +16,8 @@ mod std_desk;
 pub use boxed::Boxed;
 pub use desk::Desk;
 pub use event::{
-    AskKind, AttemptPlan, Codes, Event, EventList, Exit, Job, LoadPlan, RawRow, RawRowList, StreamId, StreamNo, StreamPlan,
+    AskKind, AttemptPlan, Codes, Event, EventList, Exit, Job, LoadPlan, RawRow, RawRowList,
+    StreamId, StreamNo, StreamPlan,
 };
 pub use fault::Fault;
 pub use link::{Link, LinkCounts, LinkFace, Offered, PollKind, Polled};

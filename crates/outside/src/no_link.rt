@@ -3,9 +3,7 @@ ghost use Rattle.std.specs.Prelude.{◌≡◌, None, false, ⊤};
 ghost use Rattle.outside.specs.Told.{RoseIf};
 ghost use Rattle.outside.specs.Link.{no_codes};
 
-use crate::{
-    AttemptPlan, Bytes, Codes, Fault, Link, LinkCounts, Offered, PollKind, Polled,
-};
+use crate::{AttemptPlan, Bytes, Codes, Fault, Link, LinkCounts, Offered, PollKind, Polled};
 use std::alloc::Global;
 
 const NO_CODES: Codes = Codes {

@@ -9,6 +9,7 @@ use std::io::{self, BufWriter, ErrorKind, Printer, Read, Write};
 use std::rt::Files;
 
 const PIECE: usize = 65_536;
+
 const LONGEST_TEXT: usize = 4_294_967_296;
 
 /// The desk of a process. A text is the file of that name, at most 4,294,967,296 bytes of it; lines go to standard

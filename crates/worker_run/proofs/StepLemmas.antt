@@ -21,14 +21,22 @@ next_is text text' text'' at start end e' e'' h =
 pub takes_record : (stream text line : List ℕ) (at end number records since : ℕ) (events events' : List Event) (is_over : Bool) (content : RecordMsg) (old : World) → world_of stream text at number records since events is_over ≡ old → lines_of (drop at text) ≡ line ∷ lines_of (drop end text) → FitsRecord stream line content → events' ≡ events ++ record_events line records content → TakesRecord old (world_of stream text end (number + 1) (records + 1) (since + 1) events' is_over)
 takes_record stream text line at end number records since events events' is_over content old view next fits added =
     subst (λ (w : World). TakesRecord w (world_of stream text end (number + 1) (records + 1) (since + 1) events' is_over)) view record {
-      line = line; content = content; rest = lines_of (drop end text); next = next; fits = fits;
+      line = line;
+      content = content;
+      rest = lines_of (drop end text);
+      next = next;
+      fits = fits;
       after = ap (λ (es : List Event). world_of stream text end (number + 1) (records + 1) (since + 1) es is_over) added;
     }
 
 pub takes_state : (stream text line object : List ℕ) (at end number records since : ℕ) (events events' : List Event) (is_over : Bool) (state : StateMsg) (old : World) → world_of stream text at number records since events is_over ≡ old → lines_of (drop at text) ≡ line ∷ lines_of (drop end text) → IsFitState stream since line state → AddsState stream line state.object since events events' → object ≡ state.object → TakesState old object (world_of stream text end (number + 1) records 0 events' is_over)
 takes_state stream text line object at end number records since events events' is_over state old view next fits adds is =
     subst (λ (w : World). TakesState w object (world_of stream text end (number + 1) records 0 events' is_over)) view record {
-      line = line; state = state; echo = adds.echo; rest = lines_of (drop end text); next = next;
+      line = line;
+      state = state;
+      echo = adds.echo;
+      rest = lines_of (drop end text);
+      next = next;
       fits = record { short = fits.short; message = fits.message; taken = fits.taken; echoed = adds.echoed };
       saved = is;
       after = ap (λ (es : List Event). world_of stream text end (number + 1) records 0 es is_over) adds.added;

@@ -7,3 +7,4 @@ pub mod World
 pub mod Output
 pub mod Steps
 pub mod Ends
+pub mod SafeSync

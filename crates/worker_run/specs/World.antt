@@ -15,9 +15,18 @@ use Rattle.worker_run.specs.Store.{store_text, states_text}
 -- the row of a record with this number in load 1
 abbrev pub row_of : ℕ → RecordMsg → RawRow
 row_of number content = record {
-    load = 1; seq = number; generation = 0; extracted_at = content.emitted_at; loaded_at = 0;
-    raw_id = []; key = []; cursor = []; body = content.body; columns = []; meta = [];
-  }
+  load = 1;
+  seq = number;
+  generation = 0;
+  extracted_at = content.emitted_at;
+  loaded_at = 0;
+  raw_id = [];
+  key = [];
+  cursor = [];
+  body = content.body;
+  columns = [];
+  meta = [];
+}
 
 abbrev pub stream_plan : List ℕ → StreamPlan
 stream_plan stream = record { id = record { name = stream; namespace = None }; dedup = false; generation = 0; minimum = 0; hidden = false }
@@ -68,9 +77,13 @@ begun text stream = record { stream = stream; lines = lines_of text; number = 0;
 -- the world after a line was taken as this round
 abbrev pub took : World → Round → List (List ℕ) → World
 took world round lines = record {
-    stream = world.stream; lines = lines; number = world.number + 1; counted = counted_after world.counted round;
-    events = world.events ++ round_events world.stream world.counted round; is_over = world.is_over;
-  }
+  stream = world.stream;
+  lines = lines;
+  number = world.number + 1;
+  counted = counted_after world.counted round;
+  events = world.events ++ round_events world.stream world.counted round;
+  is_over = world.is_over;
+}
 
 -- the world after its end, which comes once
 abbrev pub ended : World → World

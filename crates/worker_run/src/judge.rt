@@ -44,12 +44,7 @@ impl Judged {
     ghost use Rattle.worker_run.specs.Steps.{IsJudged};
 
     /// Judges a line of a stream, of which so many records were read, and so many since the last state.
-    pub fn of(
-        alloc: Global,
-        line: &[u8],
-        stream: &Name,
-        since: u64,
-    ) -> Result<Self, NoMemory>
+    pub fn of(alloc: Global, line: &[u8], stream: &Name, since: u64) -> Result<Self, NoMemory>
         ensures { IfOk result (IsJudged stream.now since line.now) }
     {
         if line.len() > LONGEST_LINE {

@@ -115,12 +115,7 @@ pub fn say_status<K: Desk>(alloc: Global, desk: &mut K, status: Status) -> Resul
 }
 
 // Says the number of rows of a table.
-fn say_table<K: Desk>(
-    alloc: Global,
-    desk: &mut K,
-    stream: &Name,
-    rows: u64,
-) -> Result<(), Fault>
+fn say_table<K: Desk>(alloc: Global, desk: &mut K, stream: &Name, rows: u64) -> Result<(), Fault>
     ensures ok { OnOk result (K.said desk.new ≡ told_more (table_line stream.now rows ∷ []) (K.said desk.old)) }
     ensures whole_or_nothing { SaidOrNot (table_line stream.now rows) (K.said desk.old) (K.said desk.new) }
     ensures no_memory { IsErrOf result Fault.NoMemory → K.said desk.new ≡ K.said desk.old }

@@ -5,13 +5,14 @@ ghost use Rattle.worker_run.specs.World.{row_of, first_events, last_events, reco
 use crate::store::store_text;
 use airbyte_message::{RecordMsg, StateMsg};
 use outside::{
-    AttemptPlan, Boxed, Bytes, Codes, Event, Exit, Job, LoadPlan, Name, NoMemory, RawRow, RawRowList,
-    StreamId, StreamPlan,
+    AttemptPlan, Boxed, Bytes, Codes, Event, Exit, Job, LoadPlan, Name, NoMemory, RawRow,
+    RawRowList, StreamId, StreamPlan,
 };
 use std::alloc::Global;
 
 // The number of the only load, and that of the only stream.
 const LOAD: u64 = 1;
+
 const STREAM: u32 = 0;
 
 // The row of a record with this number.

@@ -36,11 +36,7 @@ fn say_fault(fault: Fault) -> Status
 }
 
 // Takes the lines of a world one by one, and says each state that is saved.
-fn take_lines<K: Desk>(
-    alloc: Global,
-    desk: &mut K,
-    world: &mut PlainWorld,
-) -> Result<Status, Fault>
+fn take_lines<K: Desk>(alloc: Global, desk: &mut K, world: &mut PlainWorld) -> Result<Status, Fault>
     ensures status { IfOk result IsAttemptEnd }
     ensures faults { RoseIf (IsErrOf result Fault.Failed) (K.say_faults desk.old) (K.say_faults desk.new) }
     ensures read_faults { K.read_faults desk.new ≡ K.read_faults desk.old }
@@ -58,11 +54,7 @@ fn take_lines<K: Desk>(
 }
 
 // One attempt over a world, with its lines; at Ok the table follows.
-fn run_world<K: Desk>(
-    alloc: Global,
-    desk: &mut K,
-    world: &mut PlainWorld,
-) -> Result<Status, Fault>
+fn run_world<K: Desk>(alloc: Global, desk: &mut K, world: &mut PlainWorld) -> Result<Status, Fault>
     ensures status { IfOk result IsAttemptEnd }
     ensures faults { RoseIf (IsErrOf result Fault.Failed) (K.say_faults desk.old) (K.say_faults desk.new) }
     ensures read_faults { K.read_faults desk.new ≡ K.read_faults desk.old }

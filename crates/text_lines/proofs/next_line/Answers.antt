@@ -12,8 +12,9 @@ returns-then-is_line-clause-line c =
     let shown = sym c.is_line.ensures ∙ c.if-is_line.true in
     c.loop-start.invariant.left ∙
     elim (eq-or-lt_of_le piece.place.1) [
-      inl at ↦ lines_of-last text start end piece.place.0 at piece.piece shown
-    | inr lt ↦ lines_of-line text start end piece.place.0 lt (piece.newline lt) piece.piece shown ]
+      | inl at ↦ lines_of-last text start end piece.place.0 at piece.piece shown
+      | inr lt ↦ lines_of-line text start end piece.place.0 lt (piece.newline lt) piece.piece shown
+    ]
 
 pub returns-then-end-text-clause-none : goal.returns-then-end-text-clause-none
 returns-then-end-text-clause-none c =

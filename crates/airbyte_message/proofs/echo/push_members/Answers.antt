@@ -1,4 +1,4 @@
-use Rattle.std.proofs.Common.{◌≡◌, ◌<◌, ◌+◌, List, ℕ, ◌++◌, length, take, sym, ap, subst, ◌∙◌, slice_index_or}
+use Rattle.std.proofs.Common.{◌≡◌, ◌<◌, ◌+◌, List, ℕ, ◌++◌, length, take, sym, subst, ◌∙◌, slice_index_or}
 use Rattle.json_span.specs.declared.Member.{Member}
 use Rattle.airbyte_message.specs.Echo.{PushesKept, member_text}
 use Rattle.airbyte_message.proofs.MessageLemmas.{true_false, pushes_dropped, pushes_kept}
@@ -16,9 +16,10 @@ loop-member-preserved c =
     let i = c.loop-member.member-index in
     let lt : i < length members = c.loop-member-test.true in
     elim c.if-not-branch.branch [
-      then-not-branch+in_ok-push_member w ↦
-        let pushed : c.if-not-branch.echo.items ≡ c.loop-member.echo.items ++ member_text object (slice_index_or members i no_member) = cc (w.in_ok-push_member.ensures, w.echo-is) in
-        pushes_kept object members i no_member c.of.result.now before c.loop-member.echo.items c.if-not-branch.echo.items lt c.of.ensures (λ named. true_false (sym (c.in_ok-is_string_of.ensures.1 named) ∙ w.if-not-branch.true)) pushed c.loop-member.invariant
-    | else-not-branch w ↦
-        let kept : c.loop-member.echo.items ≡ c.if-not-branch.echo.items = cc w.echo-is in
-        subst (λ (items : List ℕ). PushesKept object (take (i + 1) members) before items) kept (pushes_dropped object members i no_member c.of.result.now before c.loop-member.echo.items lt c.of.ensures (c.in_ok-is_string_of.ensures.0 w.if-not-branch.false) c.loop-member.invariant) ]
+      | then-not-branch+in_ok-push_member w ↦
+          let pushed : c.if-not-branch.echo.items ≡ c.loop-member.echo.items ++ member_text object (slice_index_or members i no_member) = cc (w.in_ok-push_member.ensures, w.echo-is) in
+          pushes_kept object members i no_member c.of.result.now before c.loop-member.echo.items c.if-not-branch.echo.items lt c.of.ensures (λ named. true_false (sym (c.in_ok-is_string_of.ensures.1 named) ∙ w.if-not-branch.true)) pushed c.loop-member.invariant
+      | else-not-branch w ↦
+          let kept : c.loop-member.echo.items ≡ c.if-not-branch.echo.items = cc w.echo-is in
+          subst (λ (items : List ℕ). PushesKept object (take (i + 1) members) before items) kept (pushes_dropped object members i no_member c.of.result.now before c.loop-member.echo.items lt c.of.ensures (c.in_ok-is_string_of.ensures.0 w.if-not-branch.false) c.loop-member.invariant)
+    ]

@@ -20,8 +20,9 @@ returns-then-eq c =
     let typed = along (HasText line (codes "type")) c.in-Some-2.is c.in_ok-kind.ensures in
     let named = named_is c.in-Some-2.kind (codes "RECORD") c.as_str.result.now c.eq.result c.eq.ensures c.as_str.ensures c.if-eq.true in
     elim c.match-branch-6.branch [
-      in-Some-3 w ↦ told line c.match-branch-6.result (Some (message.Rec w.in-Some-3.content)) w.result-is (message_record line c.in-Some-2.kind w.in-Some-3.content typed named (along (IsRecordLine line) w.in-Some-3.is c.in_ok-content.ensures))
-    | in-None w ↦ told line c.match-branch-6.result None w.result-is (message_no_record line c.in-Some-2.kind typed named (along (IsRecordLine line) w.in-None.is c.in_ok-content.ensures)) ]
+      | in-Some-3 w ↦ told line c.match-branch-6.result (Some (message.Rec w.in-Some-3.content)) w.result-is (message_record line c.in-Some-2.kind w.in-Some-3.content typed named (along (IsRecordLine line) w.in-Some-3.is c.in_ok-content.ensures))
+      | in-None w ↦ told line c.match-branch-6.result None w.result-is (message_no_record line c.in-Some-2.kind typed named (along (IsRecordLine line) w.in-None.is c.in_ok-content.ensures))
+    ]
 
 pub returns-then-eq-2 : goal.returns-then-eq-2
 returns-then-eq-2 c =
@@ -29,8 +30,9 @@ returns-then-eq-2 c =
     let typed = along (HasText line (codes "type")) c.in-Some-2.is c.in_ok-kind.ensures in
     let named = named_is c.in-Some-2.kind (codes "STATE") c.as_str-2.result.now c.eq-2.result c.eq-2.ensures c.as_str-2.ensures c.if-eq-2.true in
     elim c.match-branch-8.branch [
-      in-Some-4 w ↦ told line c.match-branch-8.result (Some (message.State w.in-Some-4.state)) w.result-is (message_state line c.in-Some-2.kind w.in-Some-4.state typed named (along (IsStateLine line) w.in-Some-4.is c.in_ok-state.ensures))
-    | in-None-2 w ↦ told line c.match-branch-8.result None w.result-is (message_no_state line c.in-Some-2.kind typed named (along (IsStateLine line) w.in-None-2.is c.in_ok-state.ensures)) ]
+      | in-Some-4 w ↦ told line c.match-branch-8.result (Some (message.State w.in-Some-4.state)) w.result-is (message_state line c.in-Some-2.kind w.in-Some-4.state typed named (along (IsStateLine line) w.in-Some-4.is c.in_ok-state.ensures))
+      | in-None-2 w ↦ told line c.match-branch-8.result None w.result-is (message_no_state line c.in-Some-2.kind typed named (along (IsStateLine line) w.in-None-2.is c.in_ok-state.ensures))
+    ]
 
 pub returns : goal.returns
 returns c =

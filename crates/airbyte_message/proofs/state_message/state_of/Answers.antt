@@ -2,7 +2,7 @@ use Rattle.std.proofs.Common.{List, ℕ, ap, sym, codes}
 use Rattle.std.specs.Option.{option_copied}
 use Rattle.json_fields.specs.Fields.{HasField}
 use Rattle.airbyte_message.specs.Messages.{IsKind, HasStats, IsState, state_depth}
-use Rattle.airbyte_message.proofs.MessageLemmas.{along, along_only, uncut, within, state_msg, state_answer, state_uncut, state_untyped, state_no_stream, state_no_kind, state_no_count}
+use Rattle.airbyte_message.proofs.MessageLemmas.{along, along_only, uncut, within, state_msg, state_answer, state_uncut, state_no_stream, state_no_kind, state_no_count}
 use Rattle.airbyte_message.proofs.state_message.state_of.Goals as goal
 
 pub returns-in_default : goal.returns-in_default

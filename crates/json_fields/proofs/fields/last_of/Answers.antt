@@ -19,14 +19,15 @@ loop-member-preserved c =
     let i = c.loop-member.member-index in
     let lt : i < length members = c.loop-member-test.true in
     elim c.if-branch.branch [
-      then-branch w ↦ record {
+      | then-branch w ↦ record {
         holds = subst (λ (found : Option (List ℕ)). Holds text name (take (i + 1) members) found) (ap (λ (held : List ℕ). Some held) (sym w.of-then-branch.ensures) ∙ ap option_copied (sym w.found-is)) (Holds-step_named text name members i no_member c.of.result.now (option_copied c.loop-member.found) lt c.of.ensures (c.in_ok-is_string_of.ensures.0 w.if-branch.true) c.loop-member.invariant.holds);
         value = subst (λ (found : Option (Bor (List ℕ))). IfSome found (λ held. IsValue held.now)) (sym w.found-is) (subst IsValue (sym w.of-then-branch.ensures) (c.requires i no_member lt).value);
-        }
-    | else-branch w ↦ record {
+      }
+      | else-branch w ↦ record {
         holds = subst (λ (found : Option (List ℕ)). Holds text name (take (i + 1) members) found) (ap option_copied (sym w.found-is)) (Holds-step_other text name members i no_member c.of.result.now (option_copied c.loop-member.found) lt c.of.ensures (λ named. true_false (sym (c.in_ok-is_string_of.ensures.1 named) ∙ w.if-branch.false)) c.loop-member.invariant.holds);
         value = subst (λ (found : Option (Bor (List ℕ))). IfSome found (λ held. IsValue held.now)) (sym w.found-is) c.loop-member.invariant.value;
-        } ]
+      }
+    ]
   where
     true_false : true ≡ false → ⊥
     true_false e = cc

@@ -4,7 +4,7 @@ use Rattle.worker_run.proofs.output.say_bodies.Given as goal
 -- only lines were said
 abbrev pub invariant-loop-row : goal.invariant-loop-row
 invariant-loop-row g l = record {
-    faults : g.K.Desk.say_faults l.fn.desk ≤ g.K.Desk.say_faults l.desk;
-    read_faults : g.K.Desk.read_faults l.desk ≡ g.K.Desk.read_faults l.fn.desk;
-    texts : g.K.Desk.texts l.desk ≡ g.K.Desk.texts l.fn.desk;
-  }
+  faults : g.K.Desk.say_faults l.fn.desk ≤ g.K.Desk.say_faults l.desk;
+  read_faults : g.K.Desk.read_faults l.desk ≡ g.K.Desk.read_faults l.fn.desk;
+  texts : g.K.Desk.texts l.desk ≡ g.K.Desk.texts l.fn.desk;
+}

@@ -1,0 +1,19 @@
+#!/usr/bin/env bash
+# Builds the worker, and runs the checks over it: a file of real messages where that is at hand, and random JSON texts
+# where python3 is. Each check that cannot run says so and is passed over.
+set -u
+cd "$(dirname "${BASH_SOURCE[0]}")/.." || exit 2
+
+if ! (cd crates/airbyte_worker && rt run -- local --messages data/messages.jsonl --catalog data/catalog.json) >/dev/null 2>&1; then
+    echo "checks: the worker was not built"
+    exit 1
+fi
+worker=crates/airbyte_worker/out/airbyte_worker
+failed=0
+checks/zones.sh "$worker" ../shared/data || failed=1
+if command -v python3 >/dev/null 2>&1; then
+    python3 checks/random_objects.py "$worker" || failed=1
+else
+    echo "checks: no python3, so no random objects"
+fi
+exit "$failed"

@@ -1,0 +1,123 @@
+-- A safe sync over the events of one attempt, in every prefix: what the attempt starts with, which lines are given,
+-- and what stands committed when a state is saved. It speaks of the whole list of events and of no machine.
+use Rattle.std.specs.Prelude.{◌≡◌, ◌⊎◌, ℕ, List, [], ◌∷◌, ◌++◌, map, fold, flat_map, Option, None, Some, Contains}
+use Rattle.std.specs.List.{AllByRecursion, filter_map, enumerate_from}
+use Rattle.outside.specs.declared.event.Event.{Event}
+use Rattle.outside.specs.declared.event.Event.TheVariants.{Committed, Started, ReadLine, Given, Got, Saved}
+use Rattle.outside.specs.declared.event.RawRow.{RawRow}
+use Rattle.outside.specs.declared.event.StreamId.{StreamId}
+use Rattle.outside.specs.declared.event.AttemptPlan.{AttemptPlan}
+use Rattle.airbyte_message.specs.Messages.{IsMessage}
+use Rattle.airbyte_message.specs.Echo.{IsEcho}
+use Rattle.airbyte_message.specs.declared.message.Message.{Message}
+use Rattle.airbyte_message.specs.declared.message.Message.TheVariants as message
+use Rattle.airbyte_message.specs.declared.message.RecordMsg.{RecordMsg}
+use Rattle.airbyte_message.specs.declared.message.StateMsg.{StateMsg}
+use Rattle.airbyte_message.specs.declared.message.StateKind.{StateKind}
+use Rattle.airbyte_message.specs.declared.message.StateKind.TheVariants as kind
+use Rattle.worker_run.specs.Store.{store_text, states_text}
+use Rattle.worker_run.specs.World.{row_of}
+
+-- the lane of a state: the stream that it is of
+abbrev pub lane_of : StateKind → StreamId
+lane_of (kind.Stream id blob) = id
+
+-- a state covers the records of its lane
+abbrev pub Covers : StateMsg → RecordMsg → Type 0
+Covers state content = content.id ≡ lane_of state.kind
+
+abbrev pub read_line : Event → Option (List ℕ)
+read_line (ReadLine line) = Some line
+read_line event = None
+
+abbrev pub given_line : Event → Option (List ℕ)
+given_line (Given line) = Some line
+given_line event = None
+
+abbrev pub got_line : Event → Option (List ℕ)
+got_line (Got line) = Some line
+got_line event = None
+
+abbrev pub saved_text : Event → Option (List ℕ)
+saved_text (Saved text) = Some text
+saved_text event = None
+
+abbrev pub rows_of : Event → List RawRow
+rows_of (Committed stream rows) = rows
+rows_of event = []
+
+-- the events since the last start
+abbrev pub attempt_after : List Event → Event → List Event
+attempt_after events (Started plan) = []
+attempt_after events event = events ++ event ∷ []
+
+abbrev pub attempt : List Event → List Event
+attempt events = fold attempt_after [] events
+
+-- the text that was saved last
+abbrev pub last_saved : List Event → Option (List ℕ)
+last_saved events = fold (λ found event. kept found (saved_text event)) None events
+  where
+    kept : Option (List ℕ) → Option (List ℕ) → Option (List ℕ)
+    kept found None = found
+    kept found (Some text) = Some text
+
+-- each line is this message
+abbrev pub AreMessages : List (List ℕ) → List Message → Type 0
+AreMessages [] [] = Unit {0}
+AreMessages [] (m ∷ messages) = ⊥
+AreMessages (line ∷ lines) [] = ⊥
+AreMessages (line ∷ lines) (m ∷ messages) = IsMessage line m × AreMessages lines messages
+
+-- a state that was read, with the records that were read before it, in order
+pub record ReadState : Type 0 where
+  pub state : StateMsg
+  pub before : List RecordMsg
+
+abbrev pub states_behind : List RecordMsg → List Message → List ReadState
+states_behind before [] = []
+states_behind before (message.Rec content ∷ messages) = states_behind (before ++ content ∷ []) messages
+states_behind before (message.State state ∷ messages) = record { state = state; before = before } ∷ states_behind before messages
+
+-- the line is the echo of the state with some count
+abbrev pub Echoes : StateMsg → List ℕ → Type 0
+Echoes state line = (count : ℕ) × IsEcho state.object count line
+
+-- Each line that was got takes the first state that it echoes, among those read behind the one taken before it.
+abbrev pub Takes : List (List ℕ) → List ReadState → List ReadState → Type 0
+Takes [] states taken = taken ≡ []
+Takes (line ∷ lines) states taken =
+    (passed : List ReadState) × (first : ReadState) × (rest : List ReadState) × (others : List ReadState) × (states ≡ passed ++ first ∷ rest)
+    × AllByRecursion (λ other. ¬ Echoes other.state line) passed × Echoes first.state line × (taken ≡ first ∷ others) × Takes lines rest others
+
+-- an attempt starts with the states that were saved last
+pub record StartsSafely (stream : List ℕ) (before : List Event) (plan : AttemptPlan) : Type 0 where
+  pub held : Option (List ℕ)
+  pub stored : last_saved before ≡ Some (store_text stream held)
+  pub states : plan.states ≡ states_text held
+
+-- the store's text before any state
+pub record SavesNothing (stream : List ℕ) (before : List Event) (text : List ℕ) : Type 0 where
+  pub first : filter_map saved_text before ≡ []
+  pub is : text ≡ store_text stream None
+
+-- The text holds the state that the last echo takes, and each record that it covers and that was read before it stands
+-- committed in this attempt, as the row of its own line with its number.
+pub record SavesTaken (stream : List ℕ) (before : List Event) (text : List ℕ) : Type 0 where
+  pub messages : List Message
+  pub are : AreMessages (filter_map read_line (attempt before)) messages
+  pub taken : List ReadState
+  pub last : ReadState
+  pub takes : Takes (filter_map got_line (attempt before)) (states_behind [] messages) (taken ++ last ∷ [])
+  pub is : text ≡ store_text stream (Some last.state.object)
+  pub committed : AllByRecursion (λ numbered. Covers last.state numbered.1 → Contains (flat_map rows_of (attempt before)) (row_of numbered.0 numbered.1)) (enumerate_from 0 last.before)
+
+-- the events so far are safe, as to the given lines and to the last event
+pub record IsSafeSoFar (stream : List ℕ) (events : List Event) : Type 0 where
+  pub given : (rest : List (List ℕ)) × (filter_map read_line (attempt events) ≡ filter_map given_line (attempt events) ++ rest)
+  pub started : (before : List Event) (plan : AttemptPlan) → events ≡ before ++ Started plan ∷ [] → StartsSafely stream before plan
+  pub saved : (before : List Event) (text : List ℕ) → events ≡ before ++ Saved text ∷ [] → SavesNothing stream before text ⊎ SavesTaken stream before text
+
+-- so is every prefix
+abbrev pub IsSafeSync : List ℕ → List Event → Type 0
+IsSafeSync stream events = (front rest : List Event) → events ≡ front ++ rest → IsSafeSoFar stream front
