@@ -55,7 +55,7 @@ pub fn classify(byte: u8) -> Class
     }
 }
 
-/// What a hexadecimal digit says of the surrogates, which begin with D8 to DF.
+/// What a hexadecimal digit says of the surrogates, whose first digit is D and whose second is from 8 on.
 #[derive(Clone, Copy)]
 pub enum Hex {
     /// 0 to 7.

@@ -2,8 +2,8 @@
 #![tactic(auto)]
 
 pub use json_scalar::{is_string_of, quote, text_of, whole_of};
-pub use text_lines::next_line;
 use outside::{NoMemory, Sequence};
+pub use text_lines::next_line;
 
 /// Arrays and objects nest at most so deep.
 pub const MAX_DEPTH: usize = 127;

@@ -1,5 +1,5 @@
 // A link to nothing.
-ghost use Rattle.std.specs.Prelude.{◌≡◌, None, false, ⊤};
+ghost use Rattle.std.specs.Prelude.{◌≡◌, None, ⊤};
 ghost use Rattle.outside.specs.Told.{RoseIf};
 ghost use Rattle.outside.specs.Link.{no_codes};
 
@@ -15,6 +15,8 @@ const NO_CODES: Codes = Codes {
 #[derive(Debug, Drop)]
 pub struct NoLink {
     counts: LinkCounts,
+    running: bool,
+    input_open: bool,
     source_poll: PollKind,
     dest_poll: PollKind,
 }
@@ -31,6 +33,8 @@ impl NoLink {
                 quiet_codes: 0,
                 waits: 0,
             },
+            running: false,
+            input_open: false,
             source_poll: PollKind::Other,
             dest_poll: PollKind::Other,
         }
@@ -45,7 +49,7 @@ impl NoLink {
 }
 
 impl Link for NoLink {
-    ghost seen = { λ link. record { trace = None; counts = link.counts; face = record { running = false; input_open = false; codes = no_codes; source_poll = link.source_poll; dest_poll = link.dest_poll } } };
+    ghost seen = { λ link. record { trace = None; counts = link.counts; face = record { running = link.running; input_open = link.input_open; codes = no_codes; source_poll = link.source_poll; dest_poll = link.dest_poll } } };
 
     fn load_states(&mut self, _: Global, _: &str) -> Result<Bytes, Fault> {
         self.counts.state_faults = self.counts.state_faults.saturating_add(1);
@@ -59,6 +63,8 @@ impl Link for NoLink {
 
     fn start(&mut self, _: &AttemptPlan) -> Result<(), Fault> {
         self.fail();
+        self.running = false;
+        self.input_open = false;
         Err(Fault::Failed)
     }
 
@@ -81,6 +87,7 @@ impl Link for NoLink {
 
     fn close_dest(&mut self) -> Result<(), Fault> {
         self.fail();
+        self.input_open = false;
         Err(Fault::Failed)
     }
 
@@ -91,6 +98,8 @@ impl Link for NoLink {
 
     fn stop(&mut self) -> Result<(), Fault> {
         self.fail();
+        self.running = false;
+        self.input_open = false;
         Err(Fault::Failed)
     }
 
