@@ -1,3 +1,4 @@
 pub mod Joins
 pub mod StepLemmas
 pub mod CatalogLemmas
+pub mod ReadingLemmas

@@ -8,3 +8,4 @@ pub mod Output
 pub mod Steps
 pub mod Ends
 pub mod SafeSync
+pub mod Reading

@@ -1,7 +1,9 @@
 // The worker's top call.
-ghost use Rattle.std.specs.Prelude.{◌≡◌, ◌≢◌, None, map, string_bytes, IfOk, IsErrOf};
+ghost use Rattle.std.specs.Prelude.{◌≡◌, ◌≢◌, ℕ, List, None, IfSome, IfNone, map, string_bytes, IfOk, IsErrOf};
 ghost use Rattle.outside.specs.Told.{RoseIf};
 ghost use Rattle.worker_run.specs.Ends.{IsAttemptEnd};
+ghost use Rattle.worker_run.specs.Reading.{Reads, ReadsTo, HasCause, IsFault, IsUsageEnd};
+ghost use Rattle.worker_run.specs.World.{begun};
 ghost use Rattle.worker_run.specs.Words.{asked as asked_of};
 
 use crate::catalog::stream_of;
@@ -13,6 +15,7 @@ use std::alloc::Global;
 
 // What a fault of reading makes of a run.
 fn read_fault(fault: Fault) -> Status
+    ensures fault { IsFault result }
     ensures file { result ≡ Status.FileFault → fault ≡ Fault.Failed }
     ensures say { result ≢ Status.SayFault }
     ensures usage { result ≢ Status.Usage }
@@ -25,6 +28,7 @@ fn read_fault(fault: Fault) -> Status
 
 // What a fault of saying makes of a run.
 fn say_fault(fault: Fault) -> Status
+    ensures fault { IsFault result }
     ensures say { result ≡ Status.SayFault → fault ≡ Fault.Failed }
     ensures file { result ≢ Status.FileFault }
     ensures usage { result ≢ Status.Usage }
@@ -37,6 +41,7 @@ fn say_fault(fault: Fault) -> Status
 
 // Takes the lines of a world one by one, and says each state that is saved.
 fn take_lines<K: Desk>(alloc: Global, desk: &mut K, world: &mut PlainWorld) -> Result<Status, Fault>
+    ensures lines { IfOk result (λ status. Reads world.old world.new status (K.said desk.old) (K.said desk.new)) }
     ensures status { IfOk result IsAttemptEnd }
     ensures faults { RoseIf (IsErrOf result Fault.Failed) (K.say_faults desk.old) (K.say_faults desk.new) }
     ensures read_faults { K.read_faults desk.new ≡ K.read_faults desk.old }
@@ -55,6 +60,7 @@ fn take_lines<K: Desk>(alloc: Global, desk: &mut K, world: &mut PlainWorld) -> R
 
 // One attempt over a world, with its lines; at Ok the table follows.
 fn run_world<K: Desk>(alloc: Global, desk: &mut K, world: &mut PlainWorld) -> Result<Status, Fault>
+    ensures reads { IfOk result (λ status. (text stream : List ℕ) → world.old ≡ begun text stream → ReadsTo text stream status) }
     ensures status { IfOk result IsAttemptEnd }
     ensures faults { RoseIf (IsErrOf result Fault.Failed) (K.say_faults desk.old) (K.say_faults desk.new) }
     ensures read_faults { K.read_faults desk.new ≡ K.read_faults desk.old }
@@ -70,6 +76,7 @@ fn run_world<K: Desk>(alloc: Global, desk: &mut K, world: &mut PlainWorld) -> Re
 
 // The command `local`, but for its last line.
 fn run_local<K: Desk>(alloc: Global, desk: &mut K, names: TextNames<'_>) -> Status
+    ensures cause { HasCause (K.texts desk.old) (record { messages = names.entry.messages.now; catalog = names.entry.catalog.now }) result }
     ensures usage { result ≢ Status.Usage }
     ensures read_faults { RoseIf (result ≡ Status.FileFault) (K.read_faults desk.old) (K.read_faults desk.new) }
     ensures say_faults { RoseIf (result ≡ Status.SayFault) (K.say_faults desk.old) (K.say_faults desk.new) }
@@ -103,6 +110,8 @@ fn run_local<K: Desk>(alloc: Global, desk: &mut K, names: TextNames<'_>) -> Stat
 /// and the text of the answer. The link is not used by the commands that are built.
 pub fn run<K: Desk, L: Link>(alloc: Global, desk: &mut K, _link: &mut L, words: &[String]) -> Status
     ensures usage { result ≡ Status.Usage → asked_of (map string_bytes words.now) ≡ None }
+    ensures other_words { IfNone (asked_of (map string_bytes words.now)) (IsUsageEnd result) }
+    ensures cause { IfSome (asked_of (map string_bytes words.now)) (λ names. HasCause (K.texts desk.old) names result) }
     ensures read_faults { RoseIf (result ≡ Status.FileFault) (K.read_faults desk.old) (K.read_faults desk.new) }
     ensures say_faults { RoseIf (result ≡ Status.SayFault) (K.say_faults desk.old) (K.say_faults desk.new) }
     ensures texts { K.texts desk.new ≡ K.texts desk.old }
