@@ -24,6 +24,6 @@ pub use link::{Link, LinkCounts, LinkFace, Offered, PollKind, Polled};
 pub use memory::NoMemory;
 pub use name::Name;
 pub use no_link::NoLink;
-pub use sequence::{Bytes, BytesList, Sequence};
+pub use sequence::{Bytes, BytesList, FailList, Sequence};
 pub use status::Status;
 pub use std_desk::StdDesk;

@@ -17,6 +17,9 @@ pub type Bytes = Sequence<u8>;
 /// A list of byte texts.
 pub type BytesList = Sequence<Bytes>;
 
+/// The numbers of the calls of an object in memory that are to fail, counted from 1.
+pub type FailList = Sequence<u64>;
+
 impl<T> Model for Sequence<T> {
     ghost Value = { List T };
 

@@ -2,3 +2,9 @@ pub mod Joins
 pub mod StepLemmas
 pub mod CatalogLemmas
 pub mod ReadingLemmas
+pub mod ReachedLemmas
+pub mod SafeLemmas
+pub mod OutputLemmas
+pub mod OneReading
+pub mod SayLemmas
+pub mod RunLemmas

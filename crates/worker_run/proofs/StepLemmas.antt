@@ -1,9 +1,10 @@
 -- What a step does, over the parts of a plain world.
-use Rattle.std.proofs.Common.{◌≡◌, ℕ, ◌+◌, List, ◌∷◌, ◌++◌, Bool, drop, slice_range, refl, sym, ◌∙◌, ap, subst}
+use Rattle.std.proofs.Common.{◌≡◌, ℕ, ◌+◌, ◌<◌, ◌≤◌, List, ◌∷◌, ◌++◌, length, Bool, drop, slice_range, refl, sym, ◌∙◌, ap, subst, arith}
 use Rattle.text_lines.specs.Lines.{lines_of}
 use Rattle.outside.specs.declared.event.Event.{Event}
 use Rattle.airbyte_message.specs.declared.message.RecordMsg.{RecordMsg}
 use Rattle.airbyte_message.specs.declared.message.StateMsg.{StateMsg}
+use Rattle.worker_run.specs.Bounds.{IsBounded}
 use Rattle.worker_run.specs.Rounds.{record_round, state_round, FitsRecord, IsUnbuilt}
 use Rattle.worker_run.specs.World.{World, record_events, state_events}
 use Rattle.worker_run.specs.Steps.{TakesRecord, TakesState, Refuses, IsFitState, AddsState}
@@ -12,6 +13,15 @@ use Rattle.worker_run.specs.Steps.{TakesRecord, TakesState, Refuses, IsFitState,
 abbrev pub world_of : List ℕ → List ℕ → ℕ → ℕ → ℕ → ℕ → List Event → Bool → World
 world_of stream text at number records since events is_over =
     record { stream = stream; lines = lines_of (drop at text); number = number; counted = record { records = records; since = since }; events = events; is_over = is_over }
+
+-- the counts stay within bounds behind a record, and behind a state
+pub bounded_record : (text text' : List ℕ) (at number records since start end : ℕ) → text' ≡ text → IsBounded at number records since (length text) → (at ≤ start) × (start < end) × (end ≤ length text') → IsBounded end (number + 1) (records + 1) (since + 1) (length text)
+bounded_record text text' at number records since start end same bounded place =
+    let size = ap length same in record { inside = omega (arith, place.2, size); lines = omega (arith, bounded.lines, place.0, place.1); rows = omega (arith, bounded.rows); few = omega (arith, bounded.few) }
+
+pub bounded_state : (text text' : List ℕ) (at number records since start end : ℕ) → text' ≡ text → IsBounded at number records since (length text) → (at ≤ start) × (start < end) × (end ≤ length text') → IsBounded end (number + 1) records 0 (length text)
+bounded_state text text' at number records since start end same bounded place =
+    let size = ap length same in record { inside = omega (arith, place.2, size); lines = omega (arith, bounded.lines, place.0, place.1); rows = omega (arith, bounded.rows); few = omega arith }
 
 -- the next line of a text, where the same text is known by three names
 pub next_is : (text text' text'' : List ℕ) (at start end : ℕ) → text' ≡ text → text'' ≡ text → lines_of (drop at text') ≡ slice_range text' start end ∷ lines_of (drop end text') → lines_of (drop at text) ≡ slice_range text'' start end ∷ lines_of (drop end text)

@@ -4,8 +4,9 @@ pub mod Catalog
 pub mod Rounds
 pub mod Store
 pub mod World
+pub mod EventParts
 pub mod Output
 pub mod Steps
-pub mod Ends
 pub mod SafeSync
+pub mod Reached
 pub mod Reading

@@ -1,19 +1,18 @@
--- How the worker goes through the lines of a world, and how a run ends.
-use Rattle.std.specs.Prelude.{◌≡◌, ◌⊎◌, ℕ, ◌+◌, List, [], ◌∷◌, ◌++◌, map, fold, length, Option, Some, IfSome}
+-- How the worker goes through the lines of a file, and what a run says.
+use Rattle.std.specs.Prelude.{◌≡◌, ◌⊎◌, ℕ, ◌+◌, List, [], ◌∷◌, ◌++◌, map, length, Option, None, Some, IfSome}
 use Rattle.outside.specs.Told.{told_more}
 use Rattle.outside.specs.declared.status.Status.{Status}
 use Rattle.outside.specs.declared.status.Status.TheVariants as status
-use Rattle.outside.specs.Desk.{Texts}
+use Rattle.outside.specs.declared.fault.Fault.{Fault}
+use Rattle.outside.specs.declared.fault.Fault.TheVariants as fault
+use Rattle.outside.specs.Desk.{Texts, SaidOrNot}
+use Rattle.json_fields.specs.Answer.{IsOnly}
 use Rattle.text_lines.specs.Lines.{lines_of}
 use Rattle.worker_run.specs.Words.{TextNames}
 use Rattle.worker_run.specs.Catalog.{IsCatalog}
-use Rattle.worker_run.specs.Rounds.{Round, round_line, Counted, none_counted, counted_after, AreRounds, IsUnbuilt}
+use Rattle.worker_run.specs.Rounds.{Round, round_line, messages_of, Counted, none_counted, counted_through, AreRounds, IsUnbuilt}
 use Rattle.worker_run.specs.World.{World, ended, rounds_events}
-use Rattle.worker_run.specs.Output.{saved_lines}
-
--- what was counted through these lines
-abbrev pub counted_through : Counted → List Round → Counted
-counted_through counted rounds = fold counted_after counted rounds
+use Rattle.worker_run.specs.Output.{said_lines, attempt_lines, usage_line, status_line}
 
 -- the new world has taken these lines more than the old one
 pub record TakesLines (old new : World) (rounds : List Round) : Type 0 where
@@ -24,11 +23,11 @@ pub record TakesLines (old new : World) (rounds : List Round) : Type 0 where
   pub fits : AreRounds old.stream old.counted rounds
   pub events : new.events ≡ old.events ++ rounds_events old.stream old.counted rounds
 
--- so, and a saved line was said for each state of them
+-- so, and what was said is what these lines say
 pub record SaysLines (old new : World) (before now : Option (List (List ℕ))) : Type 0 where
   pub rounds : List Round
   pub takes : TakesLines old new rounds
-  pub said : now ≡ told_more (saved_lines rounds) before
+  pub said : now ≡ told_more (said_lines (messages_of rounds)) before
 
 -- what stands behind the lines that were taken: nothing, or a line with this number that is not taken
 abbrev pub EndsAs : Status → World → Type 0
@@ -49,12 +48,17 @@ LeavesAs status.SayFault world new = ⊥
 LeavesAs (status.Unbuilt line) world new = new ≡ world
 LeavesAs status.NoMemory world new = ⊥
 
--- lines of a world were taken up to this end, and a saved line was said for each state of them
+-- lines of a world were taken up to this end, and said
 pub record Reads (old new : World) (end : Status) (before now : Option (List (List ℕ))) : Type 0 where
   pub through : World
   pub says : SaysLines old through before now
   pub ends : EndsAs end through
   pub leaves : LeavesAs end through new
+
+-- some lines of a world were taken and said
+pub record ReadsSome (old : World) (before now : Option (List (List ℕ))) : Type 0 where
+  pub through : World
+  pub says : SaysLines old through before now
 
 -- what stands behind the lines of a text that were taken
 abbrev pub EndsBehind : List ℕ → List Round → List (List ℕ) → Status → Type 0
@@ -74,31 +78,151 @@ pub record ReadsTo (text stream : List ℕ) (end : Status) : Type 0 where
   pub fits : AreRounds stream none_counted rounds
   pub ends : EndsBehind stream rounds rest end
 
--- the desk's texts are a catalog with one stream, and messages that are read to this end
-pub record ReadsTexts (texts : Texts) (names : TextNames) (end : Status) : Type 0 where
-  pub catalog : List ℕ
-  pub catalog_is : texts names.catalog ≡ Some catalog
-  pub stream : List ℕ
-  pub is : IsCatalog catalog stream
-  pub messages : List ℕ
-  pub messages_is : texts names.messages ≡ Some messages
-  pub reads : ReadsTo messages stream end
+-- an attempt over this text ends so and says these lines
+pub record IsAttempt (text stream : List ℕ) (end : Status) (lines : List (List ℕ)) : Type 0 where
+  pub reads : ReadsTo text stream end
+  pub says : lines ≡ attempt_lines stream (messages_of reads.rounds) end
 
--- the desk's catalog has another form
-pub record RefusesCatalog (texts : Texts) (names : TextNames) (line : ℕ) : Type 0 where
+-- an attempt over this text has ended so, and its lines were said
+pub record Attempted (text stream : List ℕ) (end : Status) (before now : Option (List (List ℕ))) : Type 0 where
+  pub lines : List (List ℕ)
+  pub is : IsAttempt text stream end lines
+  pub said : now ≡ told_more lines before
+
+-- the whole begins with this front
+pub record IsFront (front whole : List (List ℕ)) : Type 0 where
+  pub rest : List (List ℕ)
+  pub splits : whole ≡ front ++ rest
+
+-- what was said is a front of what an attempt over this text says, however it ends
+pub record StopsShort (text stream : List ℕ) (before now : Option (List (List ℕ))) : Type 0 where
+  pub front : List (List ℕ)
+  pub said : now ≡ told_more front before
+  pub is : (end : Status) (lines : List (List ℕ)) → IsAttempt text stream end lines → IsFront front lines
+
+-- the text has this name, where the texts are told
+abbrev pub HasTextNamed : Option Texts → List ℕ → List ℕ → Type 0
+HasTextNamed texts name text = IfSome texts (λ by_name. by_name name ≡ Some text)
+
+-- the catalog has another form: no attempt is made, and nothing said of one
+pub record RefusesCatalog (texts : Option Texts) (names : TextNames) (end : Status) (lines : List (List ℕ)) : Type 0 where
   pub catalog : List ℕ
-  pub catalog_is : texts names.catalog ≡ Some catalog
+  pub catalog_is : HasTextNamed texts names.catalog catalog
   pub none : (stream : List ℕ) → ¬ IsCatalog catalog stream
-  pub is : line ≡ 0
+  pub ends : end ≡ status.Unbuilt 0
+  pub nothing : lines ≡ []
 
--- why a run of these texts ended so, where the texts are told
-abbrev pub HasCause : Option Texts → TextNames → Status → Type 0
-HasCause texts names status.Ok = IfSome texts (λ t. ReadsTexts t names status.Ok)
-HasCause texts names status.Usage = ⊥
-HasCause texts names status.FileFault = Unit {0}
-HasCause texts names status.SayFault = Unit {0}
-HasCause texts names (status.Unbuilt line) = IfSome texts (λ t. RefusesCatalog t names line ⊎ ReadsTexts t names (status.Unbuilt line))
-HasCause texts names status.NoMemory = Unit {0}
+-- the catalog has one stream, and an attempt over the messages ends so and says these lines
+pub record RunsAttempt (texts : Option Texts) (names : TextNames) (end : Status) (lines : List (List ℕ)) : Type 0 where
+  pub catalog : List ℕ
+  pub catalog_is : HasTextNamed texts names.catalog catalog
+  pub stream : List ℕ
+  pub stream_is : IsOnly (IsCatalog catalog) stream
+  pub messages : List ℕ
+  pub messages_is : HasTextNamed texts names.messages messages
+  pub attempt : IsAttempt messages stream end lines
+
+-- What these words and texts come to: how a run ends that meets no fault, and what it says before its last line.
+abbrev pub ComesTo : Option Texts → Option TextNames → Status → List (List ℕ) → Type 0
+ComesTo texts None end lines = (end ≡ status.Usage) × (lines ≡ usage_line ∷ [])
+ComesTo texts (Some names) end lines = RefusesCatalog texts names end lines ⊎ RunsAttempt texts names end lines
+
+-- so, with the last line
+pub record WouldSay (texts : Option Texts) (asked : Option TextNames) (end : Status) (lines : List (List ℕ)) : Type 0 where
+  pub body : List (List ℕ)
+  pub comes : ComesTo texts asked end body
+  pub is : lines ≡ body ++ status_line end ∷ []
+
+-- what was said is a front of whatever these words and texts come to, where the texts that are asked for are told
+abbrev pub IsFrontOfBody : Option Texts → Option TextNames → List (List ℕ) → Type 0
+IsFrontOfBody texts None front = IsFront front (usage_line ∷ [])
+IsFrontOfBody None (Some names) front = Unit {0}
+IsFrontOfBody (Some by_name) (Some names) front = (end : Status) (lines : List (List ℕ)) → ComesTo (Some by_name) (Some names) end lines → IsFront front lines
+
+-- the same of all that would have been said
+abbrev pub IsFrontOfAll : Option Texts → Option TextNames → List (List ℕ) → Type 0
+IsFrontOfAll texts None front = IsFront front (usage_line ∷ status_line status.Usage ∷ [])
+IsFrontOfAll None (Some names) front = Unit {0}
+IsFrontOfAll (Some by_name) (Some names) front = (end : Status) (lines : List (List ℕ)) → WouldSay (Some by_name) (Some names) end lines → IsFront front lines
+
+-- before the last line: what the words and texts come to was said
+pub record SaidBody (texts : Option Texts) (asked : Option TextNames) (end : Status) (before now : Option (List (List ℕ))) : Type 0 where
+  pub lines : List (List ℕ)
+  pub comes : ComesTo texts asked end lines
+  pub said : now ≡ told_more lines before
+
+pub record SaidPart (texts : Option Texts) (asked : Option TextNames) (before now : Option (List (List ℕ))) : Type 0 where
+  pub front : List (List ℕ)
+  pub said : now ≡ told_more front before
+  pub is : IsFrontOfBody texts asked front
+
+-- what was said before the last line, at each end
+abbrev pub SaysBody : Option Texts → Option TextNames → Status → Option (List (List ℕ)) → Option (List (List ℕ)) → Type 0
+SaysBody texts asked status.Ok before now = SaidBody texts asked status.Ok before now
+SaysBody texts asked status.Usage before now = SaidBody texts asked status.Usage before now
+SaysBody texts asked status.FileFault before now = now ≡ before
+SaysBody texts asked status.SayFault before now = SaidPart texts asked before now
+SaysBody texts asked (status.Unbuilt line) before now = SaidBody texts asked (status.Unbuilt line) before now
+SaysBody texts asked status.NoMemory before now = SaidPart texts asked before now
+
+-- all that these words and texts come to was said
+pub record SaidAll (texts : Option Texts) (asked : Option TextNames) (end : Status) (before now : Option (List (List ℕ))) : Type 0 where
+  pub lines : List (List ℕ)
+  pub would : WouldSay texts asked end lines
+  pub said : now ≡ told_more lines before
+
+-- What was said is a front of it; or, where a text could not be read, of the line that says so.
+pub record SaidFront (texts : Option Texts) (asked : Option TextNames) (unread : Type 0) (before now : Option (List (List ℕ))) : Type 0 where
+  pub front : List (List ℕ)
+  pub said : now ≡ told_more front before
+  pub is : IsFrontOfAll texts asked front ⊎ (unread × IsFront front (status_line status.FileFault ∷ []))
+
+-- What a run said, at each end. `unread`: a text could not be read.
+abbrev pub Says : Option Texts → Option TextNames → Type 0 → Status → Option (List (List ℕ)) → Option (List (List ℕ)) → Type 0
+Says texts asked unread status.Ok before now = SaidAll texts asked status.Ok before now
+Says texts asked unread status.Usage before now = SaidAll texts asked status.Usage before now
+Says texts asked unread status.FileFault before now = now ≡ told_more (status_line status.FileFault ∷ []) before
+Says texts asked unread status.SayFault before now = SaidFront texts asked unread before now
+Says texts asked unread (status.Unbuilt line) before now = SaidAll texts asked (status.Unbuilt line) before now
+Says texts asked unread status.NoMemory before now = SaidFront texts asked unread before now
+
+-- what a fault of reading, or of saying, makes of a run
+abbrev pub IsReadFault : Fault → Status → Type 0
+IsReadFault fault.Failed end = end ≡ status.FileFault
+IsReadFault fault.NoMemory end = end ≡ status.NoMemory
+
+abbrev pub IsSayFault : Fault → Status → Type 0
+IsSayFault fault.Failed end = end ≡ status.SayFault
+IsSayFault fault.NoMemory end = end ≡ status.NoMemory
+
+-- how a run without a command may end
+abbrev pub IsUsageEnd : Status → Type 0
+IsUsageEnd status.Ok = ⊥
+IsUsageEnd status.Usage = Unit {0}
+IsUsageEnd status.FileFault = ⊥
+IsUsageEnd status.SayFault = Unit {0}
+IsUsageEnd (status.Unbuilt line) = ⊥
+IsUsageEnd status.NoMemory = Unit {0}
+
+-- The last line: nothing more is said behind a line that could not be said, nor without memory. Else the status was
+-- said, or the run ends with such a fault, and it was said or not.
+abbrev pub StatusSaid : Status → Status → Option (List (List ℕ)) → Option (List (List ℕ)) → Type 0
+StatusSaid end result before now =
+    ((result ≡ end) × (now ≡ told_more (status_line end ∷ []) before))
+    ⊎ (((result ≡ status.SayFault) ⊎ (result ≡ status.NoMemory)) × SaidOrNot (status_line end) before now)
+
+abbrev pub SaysLast : Status → Status → Option (List (List ℕ)) → Option (List (List ℕ)) → Type 0
+SaysLast status.Ok result before now = StatusSaid status.Ok result before now
+SaysLast status.Usage result before now = StatusSaid status.Usage result before now
+SaysLast status.FileFault result before now = StatusSaid status.FileFault result before now
+SaysLast status.SayFault result before now = (result ≡ status.SayFault) × (now ≡ before)
+SaysLast (status.Unbuilt line) result before now = StatusSaid (status.Unbuilt line) result before now
+SaysLast status.NoMemory result before now = (result ≡ status.NoMemory) × (now ≡ before)
+
+-- the last line could not be said
+abbrev pub EndsAtFault : Status → Status → Type 0
+EndsAtFault status.SayFault result = ⊥
+EndsAtFault end result = result ≡ status.SayFault
 
 -- a fault of the outside, or want of memory
 abbrev pub IsFault : Status → Type 0
@@ -109,11 +233,20 @@ IsFault status.SayFault = Unit {0}
 IsFault (status.Unbuilt line) = ⊥
 IsFault status.NoMemory = Unit {0}
 
--- how a run without a command may end
-abbrev pub IsUsageEnd : Status → Type 0
-IsUsageEnd status.Ok = ⊥
-IsUsageEnd status.Usage = Unit {0}
-IsUsageEnd status.FileFault = ⊥
-IsUsageEnd status.SayFault = Unit {0}
-IsUsageEnd (status.Unbuilt line) = ⊥
-IsUsageEnd status.NoMemory = Unit {0}
+-- the end is the only one that these words and texts come to, unless a fault came first
+abbrev pub IsOnlyEnd : Option Texts → Option TextNames → Status → Type 0
+IsOnlyEnd texts asked end = IfSome texts (λ by_name. (other : Status) (lines : List (List ℕ)) → WouldSay (Some by_name) asked other lines → IsFault end ⊎ (end ≡ other))
+
+-- the last line said is the status, unless a line could not be said or memory was wanting
+abbrev pub EndsWithStatus : Status → Option (List (List ℕ)) → Option (List (List ℕ)) → Type 0
+EndsWithStatus status.SayFault before now = Unit {0}
+EndsWithStatus status.NoMemory before now = Unit {0}
+EndsWithStatus end before now = (body : List (List ℕ)) × (now ≡ told_more (body ++ status_line end ∷ []) before)
+
+-- no line is refused, and no catalog
+abbrev pub NothingUnbuilt : Option Texts → Option TextNames → Type 0
+NothingUnbuilt texts asked = (line : ℕ) (lines : List (List ℕ)) → ¬ WouldSay texts asked (status.Unbuilt line) lines
+
+-- the run was Ok, or memory was wanting
+abbrev pub IsOkOrNoMemory : Status → Type 0
+IsOkOrNoMemory end = (end ≡ status.Ok) ⊎ (end ≡ status.NoMemory)

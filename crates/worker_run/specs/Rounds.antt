@@ -1,8 +1,9 @@
 -- How the worker reads a file of messages, line by line: which lines it takes, and what each of them counts.
-use Rattle.std.specs.Prelude.{◌≡◌, ◌⊎◌, ℕ, ◌+◌, ◌<◌, ◌≤◌, List, [], ◌∷◌, length, fold, Option, None, Some}
+use Rattle.std.specs.Prelude.{◌≡◌, ◌⊎◌, ℕ, ◌+◌, ◌<◌, ◌≤◌, List, [], ◌∷◌, map, length, fold, Option, None, Some}
 use Rattle.outside.specs.declared.event.StreamId.{StreamId}
 use Rattle.airbyte_message.specs.Messages.{IsMessage}
 use Rattle.airbyte_message.specs.Echo.{IsEcho}
+use Rattle.json_fields.specs.Answer.{IsOnly}
 use Rattle.airbyte_message.specs.declared.message.Message.{Message}
 use Rattle.airbyte_message.specs.declared.message.Message.TheVariants as message
 use Rattle.airbyte_message.specs.declared.message.RecordMsg.{RecordMsg}
@@ -22,6 +23,14 @@ pub data Round : Type 0 where
 abbrev pub round_line : Round → List ℕ
 round_line (record_round line content) = line
 round_line (state_round line state echo) = line
+
+-- the message that the line is
+abbrev pub round_message : Round → Message
+round_message (record_round line content) = message.Rec content
+round_message (state_round line state echo) = message.State state
+
+abbrev pub messages_of : List Round → List Message
+messages_of rounds = map round_message rounds
 
 -- the records that were read, and those of them since the last state
 pub record Counted : Type 0 where
@@ -57,15 +66,15 @@ abbrev pub IsTaken : List ℕ → ℕ → Message → Type 0
 IsTaken stream since (message.Rec content) = IsOfStream stream content.id
 IsTaken stream since (message.State state) = IsTakenState stream since state
 
--- the line is taken as this round
+-- the line is taken as this round: it is this message and no other
 pub record FitsRecord (stream line : List ℕ) (content : RecordMsg) : Type 0 where
   pub short : length line ≤ longest_line
-  pub message : IsMessage line (message.Rec content)
+  pub message : IsOnly (IsMessage line) (message.Rec content)
   pub taken : IsOfStream stream content.id
 
 pub record FitsState (stream : List ℕ) (since : ℕ) (line : List ℕ) (state : StateMsg) (echo : List ℕ) : Type 0 where
   pub short : length line ≤ longest_line
-  pub message : IsMessage line (message.State state)
+  pub message : IsOnly (IsMessage line) (message.State state)
   pub taken : IsTakenState stream since state
   pub echoed : IsEcho state.object since echo
 
@@ -77,6 +86,10 @@ Fits stream counted (state_round line state echo) = FitsState stream counted.sin
 abbrev pub AreRounds : List ℕ → Counted → List Round → Type 0
 AreRounds stream counted [] = Unit {0}
 AreRounds stream counted (round ∷ rounds) = Fits stream counted round × AreRounds stream (counted_after counted round) rounds
+
+-- what was counted through these lines
+abbrev pub counted_through : Counted → List Round → Counted
+counted_through counted rounds = fold counted_after counted rounds
 
 -- the line is not taken: it is too long, no message that is known here, of another stream, or its count is wrong
 abbrev pub IsUnbuilt : List ℕ → ℕ → List ℕ → Type 0

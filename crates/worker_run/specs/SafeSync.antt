@@ -3,8 +3,7 @@
 use Rattle.std.specs.Prelude.{◌≡◌, ◌⊎◌, ℕ, List, [], ◌∷◌, ◌++◌, map, fold, flat_map, Option, None, Some, Contains}
 use Rattle.std.specs.List.{AllByRecursion, filter_map, enumerate_from}
 use Rattle.outside.specs.declared.event.Event.{Event}
-use Rattle.outside.specs.declared.event.Event.TheVariants.{Committed, Started, ReadLine, Given, Got, Saved}
-use Rattle.outside.specs.declared.event.RawRow.{RawRow}
+use Rattle.outside.specs.declared.event.Event.TheVariants.{Started, Saved}
 use Rattle.outside.specs.declared.event.StreamId.{StreamId}
 use Rattle.outside.specs.declared.event.AttemptPlan.{AttemptPlan}
 use Rattle.airbyte_message.specs.Messages.{IsMessage}
@@ -17,6 +16,7 @@ use Rattle.airbyte_message.specs.declared.message.StateKind.{StateKind}
 use Rattle.airbyte_message.specs.declared.message.StateKind.TheVariants as kind
 use Rattle.worker_run.specs.Store.{store_text, states_text}
 use Rattle.worker_run.specs.World.{row_of}
+use Rattle.worker_run.specs.EventParts.{read_line, given_line, got_line, saved_text, rows_of}
 
 -- the lane of a state: the stream that it is of
 abbrev pub lane_of : StateKind → StreamId
@@ -25,26 +25,6 @@ lane_of (kind.Stream id blob) = id
 -- a state covers the records of its lane
 abbrev pub Covers : StateMsg → RecordMsg → Type 0
 Covers state content = content.id ≡ lane_of state.kind
-
-abbrev pub read_line : Event → Option (List ℕ)
-read_line (ReadLine line) = Some line
-read_line event = None
-
-abbrev pub given_line : Event → Option (List ℕ)
-given_line (Given line) = Some line
-given_line event = None
-
-abbrev pub got_line : Event → Option (List ℕ)
-got_line (Got line) = Some line
-got_line event = None
-
-abbrev pub saved_text : Event → Option (List ℕ)
-saved_text (Saved text) = Some text
-saved_text event = None
-
-abbrev pub rows_of : Event → List RawRow
-rows_of (Committed stream rows) = rows
-rows_of event = []
 
 -- the events since the last start
 abbrev pub attempt_after : List Event → Event → List Event

@@ -4,6 +4,7 @@ use Rattle.outside.specs.declared.memory.NoMemory.{NoMemory}
 use Rattle.outside.specs.declared.event.Event.{Event}
 use Rattle.airbyte_message.specs.Messages.{IsMessage}
 use Rattle.airbyte_message.specs.Echo.{IsEcho}
+use Rattle.json_fields.specs.Answer.{IsOnly}
 use Rattle.airbyte_message.specs.declared.message.Message.TheVariants as message
 use Rattle.airbyte_message.specs.declared.message.RecordMsg.{RecordMsg}
 use Rattle.airbyte_message.specs.declared.message.StateMsg.{StateMsg}
@@ -17,7 +18,7 @@ use Rattle.worker_run.specs.World.{World, took, ended, state_events}
 -- a line is a state that is taken, before its echo is written
 pub record IsFitState (stream : List ℕ) (since : ℕ) (line : List ℕ) (state : StateMsg) : Type 0 where
   pub short : length line ≤ longest_line
-  pub message : IsMessage line (message.State state)
+  pub message : IsOnly (IsMessage line) (message.State state)
   pub taken : IsTakenState stream since state
 
 -- what a line was judged to be

@@ -1,11 +1,13 @@
 // The lines that the worker says.
 ghost use Rattle.std.specs.Prelude.{◌≡◌, ◌++◌, ◌∷◌, [], IfOk, OnOk, IsErrOf, codes};
-ghost use Rattle.worker_run.specs.Output.{usage_line, saved_line, row_line, attempt_line, status_line, table_line};
+ghost use Rattle.worker_run.specs.EventParts.{rows_of};
+ghost use Rattle.worker_run.specs.Output.{usage_line, saved_line, attempt_line, status_line, table_line, table_lines, table_at, end_lines, body_lines, committed_lines};
 ghost use Rattle.outside.specs.Status.{status_text};
-ghost use Rattle.outside.specs.Told.{told_more, RoseIf};
+ghost use Rattle.outside.specs.Told.{told_more, RoseIf, GrewByFront};
 ghost use Rattle.outside.specs.Desk.{SaidOrNot};
 
-use outside::{Bytes, Desk, Event, EventList, Fault, Name, NoMemory, RawRow, Status};
+use crate::PlainWorld;
+use outside::{Bytes, Desk, Event, Fault, Name, NoMemory, RawRow, Status};
 use std::alloc::Global;
 
 /// Two texts, one behind the other.
@@ -90,8 +92,8 @@ fn say_ending<K: Desk>(
     say_joined(alloc, desk, front, text.as_slice())
 }
 
-/// Says how the attempt ended.
-pub fn say_attempt<K: Desk>(alloc: Global, desk: &mut K, status: Status) -> Result<(), Fault>
+// Says how the attempt ended.
+fn say_attempt<K: Desk>(alloc: Global, desk: &mut K, status: Status) -> Result<(), Fault>
     ensures ok { OnOk result (K.said desk.new ≡ told_more (attempt_line status ∷ []) (K.said desk.old)) }
     ensures whole_or_nothing { SaidOrNot (attempt_line status) (K.said desk.old) (K.said desk.new) }
     ensures no_memory { IsErrOf result Fault.NoMemory → K.said desk.new ≡ K.said desk.old }
@@ -127,29 +129,20 @@ fn say_table<K: Desk>(alloc: Global, desk: &mut K, stream: &Name, rows: u64) -> 
     say_joined(alloc, desk, b"table ", text.as_bytes())
 }
 
-/// Says a table: the number of its rows, and each row that was committed, in order.
-pub fn say_rows<K: Desk>(
-    alloc: Global,
-    desk: &mut K,
-    stream: &Name,
-    rows: u64,
-    events: &EventList,
-) -> Result<(), Fault>
-    ensures faults { RoseIf (IsErrOf result Fault.Failed) (K.say_faults desk.old) (K.say_faults desk.new) }
-    ensures read_faults { K.read_faults desk.new ≡ K.read_faults desk.old }
-    ensures texts { K.texts desk.new ≡ K.texts desk.old }
+// The rows that an event committed.
+fn rows_in(event: &Event) -> &[RawRow]
+    ensures { result.now ≡ rows_of event.now }
 {
-    say_table(alloc, desk, stream, rows)?;
-    for event in events.as_slice() {
-        if let Event::Committed { rows, .. } = event {
-            say_bodies(alloc, desk, rows.as_slice())?;
-        }
+    match event {
+        Event::Committed { rows, .. } => rows.as_slice(),
+        _ => &[],
     }
-    Ok(())
 }
 
 // Says the bodies of rows.
 fn say_bodies<K: Desk>(alloc: Global, desk: &mut K, rows: &[RawRow]) -> Result<(), Fault>
+    ensures ok { OnOk result (K.said desk.new ≡ told_more (body_lines rows.now) (K.said desk.old)) }
+    ensures front { GrewByFront (body_lines rows.now) (K.said desk.old) (K.said desk.new) }
     ensures faults { RoseIf (IsErrOf result Fault.Failed) (K.say_faults desk.old) (K.say_faults desk.new) }
     ensures read_faults { K.read_faults desk.new ≡ K.read_faults desk.old }
     ensures texts { K.texts desk.new ≡ K.texts desk.old }
@@ -158,4 +151,66 @@ fn say_bodies<K: Desk>(alloc: Global, desk: &mut K, rows: &[RawRow]) -> Result<(
         say_joined(alloc, desk, b"row ", row.body.as_slice())?;
     }
     Ok(())
+}
+
+// Says the rows that events committed, in order.
+fn say_committed<K: Desk>(alloc: Global, desk: &mut K, events: &[Event]) -> Result<(), Fault>
+    ensures ok { OnOk result (K.said desk.new ≡ told_more (committed_lines events.now) (K.said desk.old)) }
+    ensures front { GrewByFront (committed_lines events.now) (K.said desk.old) (K.said desk.new) }
+    ensures faults { RoseIf (IsErrOf result Fault.Failed) (K.say_faults desk.old) (K.say_faults desk.new) }
+    ensures read_faults { K.read_faults desk.new ≡ K.read_faults desk.old }
+    ensures texts { K.texts desk.new ≡ K.texts desk.old }
+{
+    for event in events {
+        say_bodies(alloc, desk, rows_in(event))?;
+    }
+    Ok(())
+}
+
+// Says the table of a world: the number of its rows, and each row that was committed, in order.
+fn say_rows<K: Desk>(alloc: Global, desk: &mut K, world: &PlainWorld) -> Result<(), Fault>
+    ensures ok { OnOk result (K.said desk.new ≡ told_more (table_lines world.now.stream (committed_lines world.now.events)) (K.said desk.old)) }
+    ensures front { GrewByFront (table_lines world.now.stream (committed_lines world.now.events)) (K.said desk.old) (K.said desk.new) }
+    ensures faults { RoseIf (IsErrOf result Fault.Failed) (K.say_faults desk.old) (K.say_faults desk.new) }
+    ensures read_faults { K.read_faults desk.new ≡ K.read_faults desk.old }
+    ensures texts { K.texts desk.new ≡ K.texts desk.old }
+{
+    say_table(alloc, desk, world.stream(), world.records())?;
+    say_committed(alloc, desk, world.events().as_slice())
+}
+
+// Says the table of a world where its attempt ended with Ok.
+fn say_table_at<K: Desk>(
+    alloc: Global,
+    desk: &mut K,
+    world: &PlainWorld,
+    end: Status,
+) -> Result<(), Fault>
+    ensures ok { OnOk result (K.said desk.new ≡ told_more (table_at world.now.stream (committed_lines world.now.events) end) (K.said desk.old)) }
+    ensures front { GrewByFront (table_at world.now.stream (committed_lines world.now.events) end) (K.said desk.old) (K.said desk.new) }
+    ensures faults { RoseIf (IsErrOf result Fault.Failed) (K.say_faults desk.old) (K.say_faults desk.new) }
+    ensures read_faults { K.read_faults desk.new ≡ K.read_faults desk.old }
+    ensures texts { K.texts desk.new ≡ K.texts desk.old }
+{
+    match end {
+        Status::Ok => say_rows(alloc, desk, world),
+        _ => Ok(()),
+    }
+}
+
+/// Says how the attempt of a world ended, and at Ok its table.
+pub fn say_end<K: Desk>(
+    alloc: Global,
+    desk: &mut K,
+    world: &PlainWorld,
+    end: Status,
+) -> Result<(), Fault>
+    ensures ok { OnOk result (K.said desk.new ≡ told_more (end_lines world.now.stream (committed_lines world.now.events) end) (K.said desk.old)) }
+    ensures front { GrewByFront (end_lines world.now.stream (committed_lines world.now.events) end) (K.said desk.old) (K.said desk.new) }
+    ensures faults { RoseIf (IsErrOf result Fault.Failed) (K.say_faults desk.old) (K.say_faults desk.new) }
+    ensures read_faults { K.read_faults desk.new ≡ K.read_faults desk.old }
+    ensures texts { K.texts desk.new ≡ K.texts desk.old }
+{
+    say_attempt(alloc, desk, end)?;
+    say_table_at(alloc, desk, world, end)
 }

@@ -46,12 +46,13 @@ impl Model for PlainWorld {
     ghost use Rattle.text_lines.specs.Lines.{lines_of};
     ghost use Rattle.worker_run.specs.World.{World};
     ghost use Rattle.worker_run.specs.Bounds.{IsBounded};
+    ghost use Rattle.worker_run.specs.Reached.{IsReached};
 
     ghost Value = { World };
 
     ghost view = { λ w. record { stream = w.stream; lines = lines_of (drop w.at w.text); number = w.number; counted = record { records = w.records; since = w.since }; events = w.events; is_over = w.is_over } };
 
-    ghost invariant = { λ w. IsBounded w.at w.number w.records w.since (length w.text) };
+    ghost invariant = { λ w. IsBounded w.at w.number w.records w.since (length w.text) × IsReached (record { stream = w.stream; lines = lines_of (drop w.at w.text); number = w.number; counted = record { records = w.records; since = w.since }; events = w.events; is_over = w.is_over }) };
 }
 
 // Puts the events of a record behind the others.
@@ -71,10 +72,13 @@ fn push_record(
 
 impl PlainWorld {
     ghost use Rattle.worker_run.specs.Steps.{Steps, AddsState};
+    ghost use Rattle.worker_run.specs.SafeSync.{IsSafeSync};
+    ghost use Rattle.worker_run.specs.Output.{committed_lines};
 
     /// A world that has taken no line: the load is opened, the empty store saved and the attempt started.
     pub fn new(alloc: Global, text: Bytes, stream: Name) -> Result<Self, NoMemory>
-        ensures { IfOk result (λ world. world ≡ begun text stream) }
+        ensures begun { IfOk result (λ world. world ≡ begun text stream) }
+        ensures safe { IfOk result (λ world. IsSafeSync world.stream world.events) }
     {
         let events = EventList::from_vec(opening_events(alloc, &stream)?);
         Ok(PlainWorld {
@@ -92,14 +96,16 @@ impl PlainWorld {
 
     /// What happened so far, in order.
     pub fn events(&self) -> &EventList
-        ensures { result.now ≡ self.now.events }
+        ensures events { result.now ≡ self.now.events }
+        ensures safe { IsSafeSync self.now.stream self.now.events }
     {
         &self.events
     }
 
     /// How many records were committed.
     pub fn records(&self) -> u64
-        ensures { result ≡ self.now.counted.records }
+        ensures counted { result ≡ self.now.counted.records }
+        ensures rows { result ≡ length (committed_lines self.now.events) }
     {
         self.records
     }
@@ -131,9 +137,8 @@ impl PlainWorld {
         Ok(state.object)
     }
 
-    /// Takes the next line. A line that is not taken leaves the world as it was, and so does want of memory; at the end
-    /// of the text the attempt ends, once.
-    pub fn step(&mut self) -> Result<Step, NoMemory>
+    // Takes the next line.
+    fn advance(&mut self) -> Result<Step, NoMemory>
         ensures { Steps self.old result self.new }
     {
         let Some(place) = next_line(self.text.as_slice(), self.at) else {
@@ -169,5 +174,15 @@ impl PlainWorld {
             }
             Judged::Unbuilt => Ok(Step::Unbuilt(self.number + 1)),
         }
+    }
+    /// Takes the next line. A line that is not taken leaves the world as it was, and so does want of memory; at the end
+    /// of the text the attempt ends, once.
+    pub fn step(&mut self) -> Result<Step, NoMemory>
+        ensures steps { Steps self.old result self.new }
+        ensures safe { IsSafeSync self.new.stream self.new.events }
+    {
+        let step = self.advance();
+        let _events = self.events();
+        step
     }
 }

@@ -1,24 +1,19 @@
 // The worker's top call.
-ghost use Rattle.std.specs.Prelude.{◌≡◌, ◌≢◌, ℕ, List, None, IfSome, IfNone, map, string_bytes, IfOk, IsErrOf};
-ghost use Rattle.outside.specs.Told.{RoseIf};
-ghost use Rattle.worker_run.specs.Ends.{IsAttemptEnd};
-ghost use Rattle.worker_run.specs.Reading.{Reads, ReadsTo, HasCause, IsFault, IsUsageEnd};
-ghost use Rattle.worker_run.specs.World.{begun};
+ghost use Rattle.std.specs.Prelude.{◌≡◌, ◌≢◌, None, IfNone, IsSome, map, string_bytes, IfOk, OnErr, IsErrOf};
+ghost use Rattle.outside.specs.Told.{Rose, RoseIf};
+ghost use Rattle.worker_run.specs.Reading.{Reads, ReadsSome, Attempted, StopsShort, SaysBody, SaysLast, EndsAtFault, Says, IsOnlyEnd, EndsWithStatus, NothingUnbuilt, IsOkOrNoMemory, IsReadFault, IsSayFault, IsUsageEnd};
 ghost use Rattle.worker_run.specs.Words.{asked as asked_of};
 
 use crate::catalog::stream_of;
-use crate::output::{say_attempt, say_rows, say_saved, say_status, say_usage};
+use crate::output::{say_end, say_saved, say_status, say_usage};
 use crate::words::{TextNames, asked};
 use crate::{PlainWorld, Step};
-use outside::{Desk, Fault, Link, Status};
+use outside::{Bytes, Desk, Fault, Link, Name, Status};
 use std::alloc::Global;
 
 // What a fault of reading makes of a run.
 fn read_fault(fault: Fault) -> Status
-    ensures fault { IsFault result }
-    ensures file { result ≡ Status.FileFault → fault ≡ Fault.Failed }
-    ensures say { result ≢ Status.SayFault }
-    ensures usage { result ≢ Status.Usage }
+    ensures { IsReadFault fault result }
 {
     match fault {
         Fault::Failed => Status::FileFault,
@@ -28,10 +23,7 @@ fn read_fault(fault: Fault) -> Status
 
 // What a fault of saying makes of a run.
 fn say_fault(fault: Fault) -> Status
-    ensures fault { IsFault result }
-    ensures say { result ≡ Status.SayFault → fault ≡ Fault.Failed }
-    ensures file { result ≢ Status.FileFault }
-    ensures usage { result ≢ Status.Usage }
+    ensures { IsSayFault fault result }
 {
     match fault {
         Fault::Failed => Status::SayFault,
@@ -39,10 +31,10 @@ fn say_fault(fault: Fault) -> Status
     }
 }
 
-// Takes the lines of a world one by one, and says each state that is saved.
+// Takes the lines of a world one by one, and says what each of them says.
 fn take_lines<K: Desk>(alloc: Global, desk: &mut K, world: &mut PlainWorld) -> Result<Status, Fault>
-    ensures lines { IfOk result (λ status. Reads world.old world.new status (K.said desk.old) (K.said desk.new)) }
-    ensures status { IfOk result IsAttemptEnd }
+    ensures lines { IfOk result (λ end. Reads world.old world.new end (K.said desk.old) (K.said desk.new)) }
+    ensures fault { OnErr result (ReadsSome world.old (K.said desk.old) (K.said desk.new)) }
     ensures faults { RoseIf (IsErrOf result Fault.Failed) (K.say_faults desk.old) (K.say_faults desk.new) }
     ensures read_faults { K.read_faults desk.new ≡ K.read_faults desk.old }
     ensures texts { K.texts desk.new ≡ K.texts desk.old }
@@ -58,26 +50,28 @@ fn take_lines<K: Desk>(alloc: Global, desk: &mut K, world: &mut PlainWorld) -> R
     Err(Fault::NoMemory)
 }
 
-// One attempt over a world, with its lines; at Ok the table follows.
-fn run_world<K: Desk>(alloc: Global, desk: &mut K, world: &mut PlainWorld) -> Result<Status, Fault>
-    ensures reads { IfOk result (λ status. (text stream : List ℕ) → world.old ≡ begun text stream → ReadsTo text stream status) }
-    ensures status { IfOk result IsAttemptEnd }
+// One attempt over the messages, with its lines; at Ok the table follows.
+fn run_attempt<K: Desk>(
+    alloc: Global,
+    desk: &mut K,
+    messages: Bytes,
+    stream: Name,
+) -> Result<Status, Fault>
+    ensures attempt { IfOk result (λ end. Attempted messages stream end (K.said desk.old) (K.said desk.new)) }
+    ensures fault { OnErr result (StopsShort messages stream (K.said desk.old) (K.said desk.new)) }
     ensures faults { RoseIf (IsErrOf result Fault.Failed) (K.say_faults desk.old) (K.say_faults desk.new) }
     ensures read_faults { K.read_faults desk.new ≡ K.read_faults desk.old }
     ensures texts { K.texts desk.new ≡ K.texts desk.old }
 {
-    let status = take_lines(alloc, desk, world)?;
-    say_attempt(alloc, desk, status)?;
-    if status == Status::Ok {
-        say_rows(alloc, desk, world.stream(), world.records(), world.events())?;
-    }
-    Ok(status)
+    let mut world = PlainWorld::new(alloc, messages, stream)?;
+    let end = take_lines(alloc, desk, &mut world)?;
+    say_end(alloc, desk, &world, end)?;
+    Ok(end)
 }
 
 // The command `local`, but for its last line.
 fn run_local<K: Desk>(alloc: Global, desk: &mut K, names: TextNames<'_>) -> Status
-    ensures cause { HasCause (K.texts desk.old) (record { messages = names.entry.messages.now; catalog = names.entry.catalog.now }) result }
-    ensures usage { result ≢ Status.Usage }
+    ensures says { SaysBody (K.texts desk.old) (Some (record { messages = names.entry.messages.now; catalog = names.entry.catalog.now })) result (K.said desk.old) (K.said desk.new) }
     ensures read_faults { RoseIf (result ≡ Status.FileFault) (K.read_faults desk.old) (K.read_faults desk.new) }
     ensures say_faults { RoseIf (result ≡ Status.SayFault) (K.say_faults desk.old) (K.say_faults desk.new) }
     ensures texts { K.texts desk.new ≡ K.texts desk.old }
@@ -95,11 +89,41 @@ fn run_local<K: Desk>(alloc: Global, desk: &mut K, names: TextNames<'_>) -> Stat
         Ok(text) => text,
         Err(fault) => return read_fault(fault),
     };
-    let Ok(mut world) = PlainWorld::new(alloc, messages, stream) else {
-        return Status::NoMemory;
-    };
-    match run_world(alloc, desk, &mut world) {
-        Ok(status) => status,
+    match run_attempt(alloc, desk, messages, stream) {
+        Ok(end) => end,
+        Err(fault) => say_fault(fault),
+    }
+}
+
+// Does what the words ask for, but for the last line.
+fn run_words<K: Desk>(alloc: Global, desk: &mut K, words: &[String]) -> Status
+    ensures says { SaysBody (K.texts desk.old) (asked_of (map string_bytes words.now)) result (K.said desk.old) (K.said desk.new) }
+    ensures other_words { IfNone (asked_of (map string_bytes words.now)) (IsUsageEnd result) }
+    ensures read_faults { RoseIf (result ≡ Status.FileFault) (K.read_faults desk.old) (K.read_faults desk.new) }
+    ensures say_faults { RoseIf (result ≡ Status.SayFault) (K.say_faults desk.old) (K.say_faults desk.new) }
+    ensures texts { K.texts desk.new ≡ K.texts desk.old }
+{
+    match asked(words) {
+        Some(names) => run_local(alloc, desk, names),
+        None => match say_usage(desk) {
+            Ok(()) => Status::Usage,
+            Err(fault) => say_fault(fault),
+        },
+    }
+}
+
+// Says how the run ended, unless a line could not be said before or memory is wanting.
+fn say_last<K: Desk>(alloc: Global, desk: &mut K, end: Status) -> Status
+    ensures last { SaysLast end result (K.said desk.old) (K.said desk.new) }
+    ensures say_faults { RoseIf (EndsAtFault end result) (K.say_faults desk.old) (K.say_faults desk.new) }
+    ensures read_faults { K.read_faults desk.new ≡ K.read_faults desk.old }
+    ensures texts { K.texts desk.new ≡ K.texts desk.old }
+{
+    if matches!(end, Status::SayFault | Status::NoMemory) {
+        return end;
+    }
+    match say_status(alloc, desk, end) {
+        Ok(()) => end,
         Err(fault) => say_fault(fault),
     }
 }
@@ -109,25 +133,17 @@ fn run_local<K: Desk>(alloc: Global, desk: &mut K, names: TextNames<'_>) -> Stat
 /// After a line that could not be said, and without memory, nothing more is said; else the last line said is `status `
 /// and the text of the answer. The link is not used by the commands that are built.
 pub fn run<K: Desk, L: Link>(alloc: Global, desk: &mut K, _link: &mut L, words: &[String]) -> Status
+    ensures says { Says (K.texts desk.old) (asked_of (map string_bytes words.now)) (Rose (K.read_faults desk.old) (K.read_faults desk.new)) result (K.said desk.old) (K.said desk.new) }
+    ensures only { IsOnlyEnd (K.texts desk.old) (asked_of (map string_bytes words.now)) result }
+    ensures last { EndsWithStatus result (K.said desk.old) (K.said desk.new) }
+
     ensures usage { result ≡ Status.Usage → asked_of (map string_bytes words.now) ≡ None }
     ensures other_words { IfNone (asked_of (map string_bytes words.now)) (IsUsageEnd result) }
-    ensures cause { IfSome (asked_of (map string_bytes words.now)) (λ names. HasCause (K.texts desk.old) names result) }
     ensures read_faults { RoseIf (result ≡ Status.FileFault) (K.read_faults desk.old) (K.read_faults desk.new) }
     ensures say_faults { RoseIf (result ≡ Status.SayFault) (K.say_faults desk.old) (K.say_faults desk.new) }
+    ensures complete { IsSome (asked_of (map string_bytes words.now)) → NothingUnbuilt (K.texts desk.old) (asked_of (map string_bytes words.now)) → ¬ Rose (K.read_faults desk.old) (K.read_faults desk.new) → ¬ Rose (K.say_faults desk.old) (K.say_faults desk.new) → IsOkOrNoMemory result }
     ensures texts { K.texts desk.new ≡ K.texts desk.old }
 {
-    let status = match asked(words) {
-        Some(names) => run_local(alloc, desk, names),
-        None => match say_usage(desk) {
-            Ok(()) => Status::Usage,
-            Err(fault) => say_fault(fault),
-        },
-    };
-    if matches!(status, Status::SayFault | Status::NoMemory) {
-        return status;
-    }
-    match say_status(alloc, desk, status) {
-        Ok(()) => status,
-        Err(fault) => say_fault(fault),
-    }
+    let end = run_words(alloc, desk, words);
+    say_last(alloc, desk, end)
 }

@@ -1,6 +1,5 @@
 // A desk of which one call fails.
-use crate::TextDesk;
-use crate::local::{CATALOG, assert_said, local_words};
+use crate::desks::{CATALOG, assert_said, desk_of, local_words};
 use outside::{NoLink, Status};
 use std::test::Fail;
 
@@ -20,7 +19,7 @@ fn a_text_that_cannot_be_read_ends_the_run(rt: HostRuntime) -> Result<(), Fail> 
     let alloc = rt.alloc();
     let words = local_words(alloc)?;
     for failing in 1..3 {
-        let mut desk = TextDesk::new(alloc, MESSAGES.as_bytes(), CATALOG.as_bytes(), failing)?;
+        let mut desk = desk_of(alloc, MESSAGES.as_bytes(), CATALOG.as_bytes(), failing)?;
         let answer = worker_run::run(alloc, &mut desk, &mut NoLink::new(), &words);
         assert_eq!(rt; answer, Status::FileFault);
         assert_said(&rt, &desk, &["status 13 FileFault"], "a read that fails");
@@ -34,7 +33,7 @@ fn after_a_line_that_cannot_be_said_nothing_more_is_said(rt: HostRuntime) -> Res
     let words = local_words(alloc)?;
     for said in 0..LINES.len() {
         let failing = said as u64 + 3;
-        let mut desk = TextDesk::new(alloc, MESSAGES.as_bytes(), CATALOG.as_bytes(), failing)?;
+        let mut desk = desk_of(alloc, MESSAGES.as_bytes(), CATALOG.as_bytes(), failing)?;
         let answer = worker_run::run(alloc, &mut desk, &mut NoLink::new(), &words);
         assert_eq!(rt; answer, Status::SayFault);
         assert_said(&rt, &desk, &LINES[..said], "a say that fails");
@@ -46,7 +45,7 @@ fn after_a_line_that_cannot_be_said_nothing_more_is_said(rt: HostRuntime) -> Res
 fn a_desk_without_a_fault_says_all(rt: HostRuntime) -> Result<(), Fail> {
     let alloc = rt.alloc();
     let words = local_words(alloc)?;
-    let mut desk = TextDesk::new(alloc, MESSAGES.as_bytes(), CATALOG.as_bytes(), 0)?;
+    let mut desk = desk_of(alloc, MESSAGES.as_bytes(), CATALOG.as_bytes(), 0)?;
     let answer = worker_run::run(alloc, &mut desk, &mut NoLink::new(), &words);
     assert_eq!(rt; answer, Status::Ok);
     assert_said(&rt, &desk, &LINES, "no fault");

@@ -1,12 +1,11 @@
-//! Tests of the worker's top call, over a desk in memory.
+//! Tests of the worker's top call and of the plain world, over a desk in memory.
 #![tactic(auto)]
 
-mod desk;
+#[cfg(test)]
+mod desks;
 #[cfg(test)]
 mod failing;
 #[cfg(test)]
 mod local;
 #[cfg(test)]
 mod world;
-
-pub use desk::TextDesk;

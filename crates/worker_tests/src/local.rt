@@ -1,40 +1,7 @@
 // The command `local` over texts in memory.
-use crate::TextDesk;
+use crate::desks::{CATALOG, assert_said, desk_of, local_words, words_of};
 use outside::{NoLink, Status};
-use std::alloc::{AllocError, Global};
-use std::process::Abort;
 use std::test::Fail;
-
-/// The catalog of one append stream `a`.
-pub const CATALOG: &str =
-    "{\"streams\":[{\"stream\":{\"name\":\"a\",\"json_schema\":{\"type\":\"object\",\"properties\":{\"id\":{\"type\":\"integer\"},\"v\":{\"type\":\"number\"}}},\"supported_sync_modes\":[\"incremental\"]},\"sync_mode\":\"incremental\",\"destination_sync_mode\":\"append\"}]}";
-
-/// Words that ask for the two texts of the desk.
-pub fn local_words(alloc: Global) -> Result<Vec<String>, AllocError> {
-    words_of(alloc, &["local", "--messages", "m", "--catalog", "c"])
-}
-
-/// Copies of these words.
-pub fn words_of(alloc: Global, texts: &[&str]) -> Result<Vec<String>, AllocError> {
-    let mut words = Vec::new(alloc);
-    for text in texts {
-        words.push(String::from_str(alloc, text)?)?;
-    }
-    Ok(words)
-}
-
-/// Checks the lines that were said.
-pub fn assert_said(rt: &impl Abort, desk: &TextDesk, lines: &[&str], case: &str) {
-    let said = desk.said();
-    assert_eq!(rt; said.len(), lines.len(), "{case}");
-    for (index, line) in lines.iter().enumerate() {
-        assert_eq!(rt;
-            said.get(index).map(|bytes| bytes.as_slice()),
-            Some(line.as_bytes()),
-            "{case}"
-        );
-    }
-}
 
 #[test]
 fn files_are_taken_line_by_line(rt: HostRuntime) -> Result<(), Fail> {
@@ -167,7 +134,7 @@ fn files_are_taken_line_by_line(rt: HostRuntime) -> Result<(), Fail> {
         ),
     ];
     for (name, messages, status, lines) in cases {
-        let mut desk = TextDesk::new(alloc, messages.as_bytes(), CATALOG.as_bytes(), 0)?;
+        let mut desk = desk_of(alloc, messages.as_bytes(), CATALOG.as_bytes(), 0)?;
         let answer = worker_run::run(alloc, &mut desk, &mut NoLink::new(), &words);
         assert_eq!(rt; answer, status, "{name}");
         assert_said(&rt, &desk, lines, name);
@@ -209,7 +176,7 @@ fn catalogs_of_another_form_are_refused_without_an_attempt(rt: HostRuntime) -> R
         ),
     ];
     for (name, catalog) in cases {
-        let mut desk = TextDesk::new(alloc, b"", catalog.as_bytes(), 0)?;
+        let mut desk = desk_of(alloc, b"", catalog.as_bytes(), 0)?;
         let answer = worker_run::run(alloc, &mut desk, &mut NoLink::new(), &words);
         assert_eq!(rt; answer, Status::Unbuilt { line: 0 }, "{name}");
         assert_said(&rt, &desk, &["status 60 Unbuilt line 0"], name);
@@ -232,7 +199,7 @@ fn null_members_and_white_space_of_a_catalog_are_passed_over(rt: HostRuntime) ->
         ),
     ];
     for (name, catalog) in cases {
-        let mut desk = TextDesk::new(alloc, b"", catalog.as_bytes(), 0)?;
+        let mut desk = desk_of(alloc, b"", catalog.as_bytes(), 0)?;
         let answer = worker_run::run(alloc, &mut desk, &mut NoLink::new(), &words);
         assert_eq!(rt; answer, Status::Ok, "{name}");
         assert_said(
@@ -260,7 +227,7 @@ fn words_of_another_form_get_the_usage(rt: HostRuntime) -> Result<(), Fail> {
     ];
     for texts in cases {
         let words = words_of(alloc, texts)?;
-        let mut desk = TextDesk::new(alloc, b"", CATALOG.as_bytes(), 0)?;
+        let mut desk = desk_of(alloc, b"", CATALOG.as_bytes(), 0)?;
         let answer = worker_run::run(alloc, &mut desk, &mut NoLink::new(), &words);
         assert_eq!(rt; answer, Status::Usage);
         assert_said(
@@ -280,7 +247,7 @@ fn words_of_another_form_get_the_usage(rt: HostRuntime) -> Result<(), Fail> {
 fn the_options_stand_in_either_order(rt: HostRuntime) -> Result<(), Fail> {
     let alloc = rt.alloc();
     let words = words_of(alloc, &["local", "--catalog", "c", "--messages", "m"])?;
-    let mut desk = TextDesk::new(alloc, b"", CATALOG.as_bytes(), 0)?;
+    let mut desk = desk_of(alloc, b"", CATALOG.as_bytes(), 0)?;
     let answer = worker_run::run(alloc, &mut desk, &mut NoLink::new(), &words);
     assert_eq!(rt; answer, Status::Ok);
     Ok(())

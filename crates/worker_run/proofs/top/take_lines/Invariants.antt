@@ -1,8 +1,9 @@
 use Rattle.std.proofs.Common.{◌≡◌, ◌≤◌}
 use Rattle.worker_run.specs.Reading.{SaysLines}
+use Rattle.worker_run.proofs.OneReading.{one_outcome, some_lines_front}
 use Rattle.worker_run.proofs.top.take_lines.Given as goal
 
--- only lines were said
+-- only what the lines say was said
 abbrev pub invariant-lines : goal.invariant-lines
 invariant-lines g l = record {
   says : SaysLines l.fn.world l.world (g.K.Desk.said l.fn.desk) (g.K.Desk.said l.desk);

@@ -1,0 +1,119 @@
+// A desk in memory.
+ghost use Rattle.std.specs.Prelude.{◌≡◌, Some, IsTrue, ◌↔◌, Contains};
+ghost use Rattle.std.specs.Option.{option_copied};
+ghost use Rattle.outside_mem.specs.MemDesk.{text_named};
+
+use outside::{Bytes, BytesList, Desk, FailList, Fault, Name, NoMemory, Sequence};
+use std::alloc::Global;
+use std::marker::Model;
+
+/// A text with the name that it is asked for by.
+#[derive(Debug, Drop)]
+pub struct NamedText {
+    pub name: Name,
+    pub text: Bytes,
+}
+
+/// Texts by name; of two with one name the first counts.
+pub type NamedTextList = Sequence<NamedText>;
+
+/// A desk that keeps its texts and the lines said, and tells both. Of its calls, counted from 1, those whose numbers
+/// it was given fail.
+#[derive(Debug, Drop)]
+pub struct MemDesk {
+    alloc: Global,
+    texts: NamedTextList,
+    fails: FailList,
+    said: BytesList,
+    calls: u64,
+    read_faults: u64,
+    say_faults: u64,
+}
+
+impl Model for MemDesk {
+    ghost use Rattle.outside_mem.specs.MemDesk.{DeskState};
+
+    ghost Value = { DeskState };
+
+    ghost view = { λ desk. record { texts = desk.texts; fails = desk.fails; said = desk.said; calls = desk.calls; read_faults = desk.read_faults; say_faults = desk.say_faults } };
+}
+
+// The text of this name.
+fn find<'a>(texts: &'a [NamedText], name: &str) -> Option<&'a Bytes>
+    ensures { option_copied result ≡ text_named texts.now name.now }
+{
+    for entry in texts {
+        if entry.name.as_str() == name {
+            return Some(&entry.text);
+        }
+    }
+    None
+}
+
+impl MemDesk {
+    ghost use Rattle.outside_mem.specs.MemDesk.{begun, DeskState, call_after};
+
+    /// A desk with these texts, which has said nothing.
+    pub fn new(alloc: Global, texts: NamedTextList, fails: FailList) -> Self
+        ensures { result ≡ begun texts fails }
+    {
+        MemDesk {
+            alloc,
+            texts,
+            fails,
+            said: BytesList::new(alloc),
+            calls: 0,
+            read_faults: 0,
+            say_faults: 0,
+        }
+    }
+
+    /// The lines said, in order.
+    pub fn said(&self) -> &BytesList
+        ensures { result.now ≡ self.now.said }
+    {
+        &self.said
+    }
+
+    // Counts a call, and tells whether it is to fail.
+    fn is_failing(&mut self) -> bool
+        ensures fails { IsTrue result ↔ Contains self.old.fails (call_after self.old.calls) }
+        ensures counted { self.new ≡ record (self.old) { calls = call_after self.old.calls } }
+    {
+        self.calls = self.calls.saturating_add(1);
+        self.fails.as_slice().contains(&self.calls)
+    }
+}
+
+impl Desk for MemDesk {
+    ghost use Rattle.outside_mem.specs.MemDesk.{text_named};
+
+    ghost texts = { λ desk. Some (λ name. text_named desk.texts name) };
+
+    ghost said = { λ desk. Some desk.said };
+
+    ghost read_faults = { λ desk. desk.read_faults };
+
+    ghost say_faults = { λ desk. desk.say_faults };
+
+    fn read_text(&mut self, alloc: Global, name: &str) -> Result<Bytes, Fault> {
+        let is_failing = self.is_failing();
+        match find(self.texts.as_slice(), name) {
+            Some(text) if !is_failing => Ok(Bytes::copy_of(alloc, text.as_slice())?),
+            _ => {
+                self.read_faults = self.read_faults.saturating_add(1);
+                Err(Fault::Failed)
+            }
+        }
+    }
+
+    fn say(&mut self, line: &[u8]) -> Result<(), Fault> {
+        if self.is_failing() {
+            self.say_faults = self.say_faults.saturating_add(1);
+            return Err(Fault::Failed);
+        }
+        let copy = Bytes::copy_of(self.alloc, line)?;
+        self.said.push(copy)?;
+        Ok(())
+    }
+}

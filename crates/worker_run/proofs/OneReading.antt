@@ -1,0 +1,190 @@
+-- A text is read to one end, and says one output: two readings of it agree.
+use Rattle.std.proofs.Common.{◌≡◌, ◌⊎◌, inl, inr, ℕ, ◌+◌, ◌<◌, ◌≤◌, List, [], ◌∷◌, ◌++◌, map, length, Option, None, Some, IfSome, refl, sym, ◌∙◌, ap, subst, arith, append_assoc}
+use Rattle.std.proofs.lemmas.List.{append-nil}
+use Rattle.std.proofs.lemmas.Grind.{flat_map-append}
+use Rattle.outside.specs.Told.{told_more}
+use Rattle.outside.specs.declared.status.Status.{Status}
+use Rattle.outside.specs.declared.status.Status.TheVariants as status
+use Rattle.outside.specs.Desk.{Texts}
+use Rattle.json_fields.specs.Answer.{IsOnly}
+use Rattle.text_lines.specs.Lines.{lines_of}
+use Rattle.airbyte_message.specs.Messages.{IsMessage}
+use Rattle.airbyte_message.specs.declared.message.Message.{Message}
+use Rattle.airbyte_message.specs.declared.message.Message.TheVariants as message
+use Rattle.worker_run.specs.Catalog.{IsCatalog}
+use Rattle.worker_run.specs.Words.{TextNames}
+use Rattle.worker_run.specs.Rounds.{Round, record_round, state_round, round_line, round_message, messages_of, Counted, none_counted, counted_after, counted_through, Fits, AreRounds, IsTaken, IsUnbuilt}
+use Rattle.worker_run.specs.World.{World, begun}
+use Rattle.worker_run.specs.Output.{said_of, said_lines, end_lines, row_lines, attempt_lines, usage_line, status_line}
+use Rattle.worker_run.specs.Reading.{EndsBehind, ReadsTo, IsAttempt, IsFront, StopsShort, HasTextNamed, RefusesCatalog, RunsAttempt, ComesTo, WouldSay, IsFrontOfBody, IsFrontOfAll, ReadsSome}
+
+-- what makes a line fit a round
+abbrev pub FitsAs : List ℕ → Counted → List ℕ → Message → Type 0
+FitsAs stream counted line m = (length line ≤ 20971520) × IsOnly (IsMessage line) m × IsTaken stream counted.since m
+
+fits_as : (stream : List ℕ) (counted : Counted) (round : Round) → Fits stream counted round → FitsAs stream counted (round_line round) (round_message round)
+fits_as stream counted (record_round line content) fits = (fits.short, fits.message, fits.taken)
+fits_as stream counted (state_round line state echo) fits = (fits.short, fits.message, fits.taken)
+
+-- a line that fits is taken
+pub taken_not_unbuilt : (stream : List ℕ) (counted : Counted) (round : Round) → Fits stream counted round → IsUnbuilt stream counted.since (round_line round) → ⊥
+taken_not_unbuilt stream counted round fits (inl long) = absurd (omega (arith, (fits_as stream counted round fits).0, long))
+taken_not_unbuilt stream counted round fits (inr none) = let known = fits_as stream counted round fits in none (round_message round) known.1.is known.2
+
+-- what a round counts depends on its message alone
+abbrev pub counted_as : Counted → Message → Counted
+counted_as counted (message.Rec content) = record { records = counted.records + 1; since = counted.since + 1 }
+counted_as counted (message.State state) = record { records = counted.records; since = 0 }
+
+counted_by_message : (counted : Counted) (round : Round) → counted_after counted round ≡ counted_as counted (round_message round)
+counted_by_message counted (record_round line content) = refl
+counted_by_message counted (state_round line state echo) = refl
+
+-- two rounds of one line are one message
+same_message : (stream stream' : List ℕ) (counted counted' : Counted) (a b : Round) → Fits stream counted a → Fits stream' counted' b → round_line a ≡ round_line b → round_message a ≡ round_message b
+same_message stream stream' counted counted' a b fits fits' e =
+    (fits_as stream' counted' b fits').1.only (round_message a) (subst (λ (line : List ℕ). IsMessage line (round_message a)) e (fits_as stream counted a fits).1.is)
+
+same_counted : (counted : Counted) (a b : Round) → round_message a ≡ round_message b → counted_after counted a ≡ counted_after counted b
+same_counted counted a b e = counted_by_message counted a ∙ (ap (λ (m : Message). counted_as counted m) e ∙ sym (counted_by_message counted b))
+
+-- what stands behind lines that were taken, where no more is taken: nothing, or a line that is not taken
+abbrev pub IsStop : List ℕ → Counted → List (List ℕ) → Type 0
+IsStop stream counted rest = (rest ≡ []) ⊎ ((bad : List ℕ) × (others : List (List ℕ)) × (rest ≡ bad ∷ others) × IsUnbuilt stream counted.since bad)
+
+stop_of : (stream : List ℕ) (rounds : List Round) (rest : List (List ℕ)) (end : Status) → EndsBehind stream rounds rest end → IsStop stream (counted_through none_counted rounds) rest
+stop_of stream rounds rest status.Ok ends = inl ends
+stop_of stream rounds rest status.Usage ends = absurd ends
+stop_of stream rounds rest status.FileFault ends = absurd ends
+stop_of stream rounds rest status.SayFault ends = absurd ends
+stop_of stream rounds rest (status.Unbuilt line) ends = inr (ends.0, ends.1, ends.2, ends.3)
+stop_of stream rounds rest status.NoMemory ends = absurd ends
+
+-- where no more is taken, no line fits
+stop_takes_nothing : (stream : List ℕ) (counted : Counted) (rest others : List (List ℕ)) (round : Round) → IsStop stream counted rest → Fits stream counted round → rest ≡ round_line round ∷ others → ⊥
+stop_takes_nothing stream counted rest others round (inl none) fits e = nil_cons rest others (round_line round) none e
+  where
+    nil_cons : (xs ys : List (List ℕ)) (x : List ℕ) → xs ≡ [] → xs ≡ x ∷ ys → ⊥
+    nil_cons xs ys x p q = cc
+stop_takes_nothing stream counted rest others round (inr bad) fits e =
+    taken_not_unbuilt stream counted round fits (subst (λ (line : List ℕ). IsUnbuilt stream counted.since line) (first bad.2 e) bad.3)
+  where
+    first : rest ≡ bad.0 ∷ bad.1 → rest ≡ round_line round ∷ others → bad.0 ≡ round_line round
+    first p q = cc
+
+heads : (xs ys : List (List ℕ)) (x y : List ℕ) → x ∷ xs ≡ y ∷ ys → x ≡ y
+heads xs ys x y e = cc
+
+tails : (xs ys : List (List ℕ)) (x y : List ℕ) → x ∷ xs ≡ y ∷ ys → xs ≡ ys
+tails xs ys x y e = cc
+
+-- the messages of one reading go on those of another
+pub record GoesOn (front whole : List Message) : Type 0 where
+  pub more : List Message
+  pub is : whole ≡ front ++ more
+
+-- a reading that takes as much as it can goes on any other
+pub goes_on : (stream : List ℕ) (counted : Counted) (a b : List Round) (rest rest' : List (List ℕ)) → AreRounds stream counted a → AreRounds stream counted b → map round_line a ++ rest ≡ map round_line b ++ rest' → IsStop stream (counted_through counted b) rest' → GoesOn (messages_of a) (messages_of b)
+goes_on stream counted [] b rest rest' fa fb e stop = record { more = messages_of b; is = refl }
+goes_on stream counted (x ∷ a) [] rest rest' fa fb e stop = absurd (stop_takes_nothing stream counted rest' (map round_line a ++ rest) x stop fa.0 (sym e))
+goes_on stream counted (x ∷ a) (y ∷ b) rest rest' fa fb e stop =
+    let same = same_message stream stream counted counted x y fa.0 fb.0 (heads (map round_line a ++ rest) (map round_line b ++ rest') (round_line x) (round_line y) e) in
+    let further = goes_on stream (counted_after counted y) a b rest rest' (subst (λ (c : Counted). AreRounds stream c a) (same_counted counted x y same) fa.1) fb.1 (tails (map round_line a ++ rest) (map round_line b ++ rest') (round_line x) (round_line y) e) stop in
+    record {
+      more = further.more;
+      is = ap (λ (ms : List Message). round_message y ∷ ms) further.is ∙ ap (λ (m : Message). m ∷ (messages_of a ++ further.more)) (sym same);
+    }
+
+-- two readings that both take as much as they can are the same
+pub record Agrees (a b : List Round) (rest rest' : List (List ℕ)) : Type 0 where
+  pub messages : messages_of a ≡ messages_of b
+  pub left : rest ≡ rest'
+
+pub agrees : (stream : List ℕ) (counted : Counted) (a b : List Round) (rest rest' : List (List ℕ)) → AreRounds stream counted a → AreRounds stream counted b → map round_line a ++ rest ≡ map round_line b ++ rest' → IsStop stream (counted_through counted a) rest → IsStop stream (counted_through counted b) rest' → Agrees a b rest rest'
+agrees stream counted [] [] rest rest' fa fb e stop stop' = record { messages = refl; left = e }
+agrees stream counted [] (y ∷ b) rest rest' fa fb e stop stop' = absurd (stop_takes_nothing stream counted rest (map round_line b ++ rest') y stop fb.0 e)
+agrees stream counted (x ∷ a) [] rest rest' fa fb e stop stop' = absurd (stop_takes_nothing stream counted rest' (map round_line a ++ rest) x stop' fa.0 (sym e))
+agrees stream counted (x ∷ a) (y ∷ b) rest rest' fa fb e stop stop' =
+    let same = same_message stream stream counted counted x y fa.0 fb.0 (heads (map round_line a ++ rest) (map round_line b ++ rest') (round_line x) (round_line y) e) in
+    let counts = same_counted counted x y same in
+    let further = agrees stream (counted_after counted y) a b rest rest' (subst (λ (c : Counted). AreRounds stream c a) counts fa.1) fb.1 (tails (map round_line a ++ rest) (map round_line b ++ rest') (round_line x) (round_line y) e) (subst (λ (c : Counted). IsStop stream (counted_through c a) rest) counts stop) stop' in
+    record {
+      messages = ap (λ (m : Message). m ∷ messages_of a) same ∙ ap (λ (ms : List Message). round_message y ∷ ms) further.messages;
+      left = further.left;
+    }
+
+-- two attempts over one text end alike and say the same
+pub record SameEnd (end end' : Status) (lines lines' : List (List ℕ)) : Type 0 where
+  pub ends : end ≡ end'
+  pub says : lines ≡ lines'
+
+length_of_messages : (a : List Round) → length (messages_of a) ≡ length a
+length_of_messages [] = refl
+length_of_messages (x ∷ a) = let more = length_of_messages a in omega (arith, more)
+
+same_end : (stream : List ℕ) (a b : List Round) (rest rest' : List (List ℕ)) (end end' : Status) → EndsBehind stream a rest end → EndsBehind stream b rest' end' → Agrees a b rest rest' → end ≡ end'
+same_end stream a b rest rest' status.Ok status.Ok ends ends' agree = refl
+same_end stream a b rest rest' status.Ok (status.Unbuilt line) ends ends' agree = absurd (nil_cons rest rest' ends'.1 ends'.0 ends agree.left ends'.2)
+  where
+    nil_cons : (xs xs' ys : List (List ℕ)) (x : List ℕ) → xs ≡ [] → xs ≡ xs' → xs' ≡ x ∷ ys → ⊥
+    nil_cons xs xs' ys x p q r = cc
+same_end stream a b rest rest' (status.Unbuilt line) status.Ok ends ends' agree = absurd (nil_cons rest rest' ends.1 ends.0 ends' agree.left ends.2)
+  where
+    nil_cons : (xs xs' ys : List (List ℕ)) (x : List ℕ) → xs' ≡ [] → xs ≡ xs' → xs ≡ x ∷ ys → ⊥
+    nil_cons xs xs' ys x p q r = cc
+same_end stream a b rest rest' (status.Unbuilt line) (status.Unbuilt line') ends ends' agree = ap (λ (n : ℕ). status.Unbuilt n) numbers
+  where
+    lengths : length a ≡ length b
+    lengths = sym (length_of_messages a) ∙ (ap length agree.messages ∙ length_of_messages b)
+
+    numbers : line ≡ line'
+    numbers = ends.4 ∙ (ap (λ (n : ℕ). n + 1) lengths ∙ sym ends'.4)
+same_end stream a b rest rest' status.Usage end' ends ends' agree = absurd ends
+same_end stream a b rest rest' status.FileFault end' ends ends' agree = absurd ends
+same_end stream a b rest rest' status.SayFault end' ends ends' agree = absurd ends
+same_end stream a b rest rest' status.NoMemory end' ends ends' agree = absurd ends
+same_end stream a b rest rest' end status.Usage ends ends' agree = absurd ends'
+same_end stream a b rest rest' end status.FileFault ends ends' agree = absurd ends'
+same_end stream a b rest rest' end status.SayFault ends ends' agree = absurd ends'
+same_end stream a b rest rest' end status.NoMemory ends ends' agree = absurd ends'
+
+pub one_attempt : (text stream : List ℕ) (end end' : Status) (lines lines' : List (List ℕ)) → IsAttempt text stream end lines → IsAttempt text stream end' lines' → SameEnd end end' lines lines'
+one_attempt text stream end end' lines lines' is is' = record {
+  ends = ends;
+  says = is.says ∙ (ap (λ (ms : List Message). attempt_lines stream ms end) agree.messages ∙ (ap (λ (e : Status). attempt_lines stream (messages_of is'.reads.rounds) e) ends ∙ sym is'.says));
+}
+  where
+    agree : Agrees is.reads.rounds is'.reads.rounds is.reads.rest is'.reads.rest
+    agree =
+        agrees stream none_counted is.reads.rounds is'.reads.rounds is.reads.rest is'.reads.rest is.reads.fits is'.reads.fits (sym is.reads.lines ∙ is'.reads.lines) (stop_of stream is.reads.rounds is.reads.rest end is.reads.ends) (stop_of stream is'.reads.rounds is'.reads.rest end' is'.reads.ends)
+
+    ends : end ≡ end'
+    ends = same_end stream is.reads.rounds is'.reads.rounds is.reads.rest is'.reads.rest end end' is.reads.ends is'.reads.ends agree
+
+-- what some lines say is a front of what an attempt says
+pub some_lines_front : (text stream : List ℕ) (a : List Round) (rest : List (List ℕ)) → AreRounds stream none_counted a → lines_of text ≡ map round_line a ++ rest → (end : Status) (lines : List (List ℕ)) → IsAttempt text stream end lines → IsFront (said_lines (messages_of a)) lines
+some_lines_front text stream a rest fits are end lines is = record {
+  rest = said_lines further.more ++ end_lines stream (row_lines (messages_of is.reads.rounds)) end;
+  splits = is.says ∙ (ap (λ (ls : List (List ℕ)). ls ++ end_lines stream (row_lines (messages_of is.reads.rounds)) end) (ap said_lines further.is ∙ flat_map-append said_of (messages_of a) further.more) ∙ append_assoc (said_lines (messages_of a)) (said_lines further.more) (end_lines stream (row_lines (messages_of is.reads.rounds)) end));
+}
+  where
+    further : GoesOn (messages_of a) (messages_of is.reads.rounds)
+    further = goes_on stream none_counted a is.reads.rounds rest is.reads.rest fits is.reads.fits (sym are ∙ is.reads.lines) (stop_of stream is.reads.rounds is.reads.rest end is.reads.ends)
+
+-- what the words and the texts come to
+
+same_text : (by_name : Texts) (name a b : List ℕ) → by_name name ≡ Some a → by_name name ≡ Some b → a ≡ b
+same_text by_name name a b e f = cc
+
+pub one_outcome : (by_name : Texts) (names : TextNames) (end end' : Status) (lines lines' : List (List ℕ)) → ComesTo (Some by_name) (Some names) end lines → ComesTo (Some by_name) (Some names) end' lines' → SameEnd end end' lines lines'
+one_outcome by_name names end end' lines lines' (inl a) (inl b) = record { ends = a.ends ∙ sym b.ends; says = a.nothing ∙ sym b.nothing }
+one_outcome by_name names end end' lines lines' (inl a) (inr b) = absurd (a.none b.stream (subst (λ (text : List ℕ). IsCatalog text b.stream) (same_text by_name names.catalog b.catalog a.catalog b.catalog_is a.catalog_is) b.stream_is.is))
+one_outcome by_name names end end' lines lines' (inr a) (inl b) = absurd (b.none a.stream (subst (λ (text : List ℕ). IsCatalog text a.stream) (same_text by_name names.catalog a.catalog b.catalog a.catalog_is b.catalog_is) a.stream_is.is))
+one_outcome by_name names end end' lines lines' (inr a) (inr b) =
+    one_attempt a.messages a.stream end end' lines lines' a.attempt (subst (λ (text : List ℕ). IsAttempt text a.stream end' lines') messages (subst (λ (s : List ℕ). IsAttempt b.messages s end' lines') streams b.attempt))
+  where
+    messages : b.messages ≡ a.messages
+    messages = same_text by_name names.messages b.messages a.messages b.messages_is a.messages_is
+
+    streams : b.stream ≡ a.stream
+    streams = a.stream_is.only b.stream (subst (λ (text : List ℕ). IsCatalog text b.stream) (same_text by_name names.catalog b.catalog a.catalog b.catalog_is a.catalog_is) b.stream_is.is)

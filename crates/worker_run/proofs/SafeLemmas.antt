@@ -1,0 +1,446 @@
+-- The events of a world that is reached are a safe sync, in every prefix.
+use Rattle.std.proofs.Common.{rules, ◌≡◌, ◌⊎◌, inl, inr, ℕ, ◌+◌, List, [], ◌∷◌, ◌++◌, map, fold, flat_map, Option, None, Some, Contains, Bool, true, false, refl, sym, ◌∙◌, ap, subst, append_assoc}
+use Rattle.std.specs.List.{AllByRecursion, filter_map, enumerate_from}
+use Rattle.std.proofs.lemmas.List.{append-nil, map-append}
+use Rattle.std.proofs.lemmas.List.Elements.{filter_map-append, Contains-append_left, Contains-append_right}
+use Rattle.std.proofs.lemmas.List.Sums.{fold-append}
+use Rattle.std.proofs.lemmas.Grind.{flat_map-append}
+use Rattle.outside.specs.declared.event.Event.{Event}
+use Rattle.outside.specs.declared.event.Event.TheVariants.{Opened, Took, TookEnd, Committed, Emitted, Merged, Shown, Started, ReadLine, ReadEnd, Given, Closed, Got, GotEnd, Saved, Ended}
+use Rattle.outside.specs.declared.event.Codes.{Codes}
+use Rattle.outside.specs.declared.event.RawRow.{RawRow}
+use Rattle.outside.specs.declared.event.AttemptPlan.{AttemptPlan}
+use Rattle.outside.specs.declared.event.Exit.TheVariants as exit
+use Rattle.airbyte_message.specs.declared.message.Message.{Message}
+use Rattle.airbyte_message.specs.declared.message.Message.TheVariants as message
+use Rattle.airbyte_message.specs.declared.message.RecordMsg.{RecordMsg}
+use Rattle.airbyte_message.specs.declared.message.StateMsg.{StateMsg}
+use Rattle.worker_run.specs.Rounds.{Round, record_round, state_round, round_line, round_message, messages_of, Counted, none_counted, counted_after, counted_through, Fits, FitsState, AreRounds}
+use Rattle.worker_run.specs.Store.{store_text, states_text}
+use Rattle.worker_run.specs.World.{World, row_of, stream_plan, attempt_plan, first_events, round_events, rounds_events, last_events, record_events, state_events}
+use Rattle.worker_run.specs.EventParts.{read_line, given_line, got_line, saved_text, rows_of}
+use Rattle.worker_run.specs.Reached.{IsReached, ending_events}
+use Rattle.worker_run.specs.SafeSync.{attempt_after, attempt, last_saved, AreMessages, ReadState, states_behind, Echoes, Takes, Covers, StartsSafely, SavesNothing, SavesTaken, IsSafeSoFar, IsSafeSync}
+use Rattle.worker_run.proofs.ReadingLemmas.{counted_through-more, AreRounds-more, rounds_events-more, messages_of-more}
+
+-- lists that end in one element more
+
+nil_more : {A : Type 0} (xs : List A) (x : A) → [] ≡ xs ++ x ∷ [] → ⊥
+nil_more [] x e = cc
+nil_more (y ∷ xs) x e = cc
+
+pub more_front : {A : Type 0} (xs ys : List A) (x y : A) → xs ++ x ∷ [] ≡ ys ++ y ∷ [] → xs ≡ ys
+more_front [] [] x y e = refl
+more_front [] (b ∷ ys) x y e = absurd (nil_more ys y (cc))
+more_front (a ∷ xs) [] x y e = absurd (nil_more xs x (cc))
+more_front (a ∷ xs) (b ∷ ys) x y e = let heads : a ≡ b = cc in let tails = more_front xs ys x y (cc) in cc
+
+pub more_last : {A : Type 0} (xs ys : List A) (x y : A) → xs ++ x ∷ [] ≡ ys ++ y ∷ [] → x ≡ y
+more_last [] [] x y e = cc
+more_last [] (b ∷ ys) x y e = absurd (nil_more ys y (cc))
+more_last (a ∷ xs) [] x y e = absurd (nil_more xs x (cc))
+more_last (a ∷ xs) (b ∷ ys) x y e = more_last xs ys x y (cc)
+
+-- a list is empty, or ends in an element
+pub record EndsIn {A : Type 0} (xs : List A) : Type 0 where
+  pub front : List A
+  pub last : A
+  pub is : xs ≡ front ++ last ∷ []
+
+ends_in : {A : Type 0} (xs : List A) → (xs ≡ []) ⊎ EndsIn xs
+ends_in [] = inl refl
+ends_in (x ∷ xs) = behind x xs (ends_in xs)
+  where
+    behind : {A : Type 0} (x : A) (xs : List A) → (xs ≡ []) ⊎ EndsIn xs → (x ∷ xs ≡ []) ⊎ EndsIn (x ∷ xs)
+    behind x xs (inl none) = inr (record { front = []; last = x; is = ap (λ (ys : _). x ∷ ys) none })
+    behind x xs (inr ends) = inr (record { front = x ∷ ends.front; last = ends.last; is = ap (λ (ys : _). x ∷ ys) ends.is })
+
+-- a prefix of a list with one element more is a prefix of the list, or the whole
+prefix_cases : (xs front rest : List Event) (x : Event) → xs ++ x ∷ [] ≡ front ++ rest → (front ≡ xs ++ x ∷ []) ⊎ ((others : List Event) × (xs ≡ front ++ others))
+prefix_cases xs front rest x e = split (ends_in rest)
+  where
+    split : (rest ≡ []) ⊎ EndsIn rest → (front ≡ xs ++ x ∷ []) ⊎ ((others : List Event) × (xs ≡ front ++ others))
+    split (inl none) = inl (sym (e ∙ (ap (λ (r : _). front ++ r) none ∙ append-nil front)))
+    split (inr ends) = inr (ends.front, more_front xs (front ++ ends.front) x ends.last (e ∙ (ap (λ (r : _). front ++ r) ends.is ∙ sym (append_assoc front ends.front (ends.last ∷ [])))))
+
+-- one event more is safe where the events so far are
+pub safe_more : (stream : List ℕ) (events : List Event) (event : Event) → IsSafeSync stream events → IsSafeSoFar stream (events ++ event ∷ []) → IsSafeSync stream (events ++ event ∷ [])
+safe_more stream events event safe so_far front rest e = along (prefix_cases events front rest event e)
+  where
+    along : (front ≡ events ++ event ∷ []) ⊎ ((others : List Event) × (events ≡ front ++ others)) → IsSafeSoFar stream front
+    along (inl whole) = subst (λ (es : List Event). IsSafeSoFar stream es) (sym whole) so_far
+    along (inr part) = safe front part.0 part.1
+
+-- what was read and what was given in the attempt so far
+abbrev reads : List Event → List (List ℕ)
+reads events = filter_map read_line (attempt events)
+
+abbrev gives : List Event → List (List ℕ)
+gives events = filter_map given_line (attempt events)
+
+-- all that was read was given
+abbrev pub IsEven : List Event → Type 0
+IsEven events = reads events ≡ gives events
+
+attempt_more : (events : List Event) (event : Event) → attempt (events ++ event ∷ []) ≡ attempt_after (attempt events) event
+attempt_more events event = fold-append attempt_after [] events (event ∷ [])
+
+reads_more : (events : List Event) (event : Event) → attempt_after (attempt events) event ≡ attempt events ++ event ∷ [] → reads (events ++ event ∷ []) ≡ reads events ++ filter_map read_line (event ∷ [])
+reads_more events event goes_on = ap (λ (es : List Event). filter_map read_line es) (attempt_more events event ∙ goes_on) ∙ filter_map-append read_line (attempt events) (event ∷ [])
+
+gives_more : (events : List Event) (event : Event) → attempt_after (attempt events) event ≡ attempt events ++ event ∷ [] → gives (events ++ event ∷ []) ≡ gives events ++ filter_map given_line (event ∷ [])
+gives_more events event goes_on = ap (λ (es : List Event). filter_map given_line es) (attempt_more events event ∙ goes_on) ∙ filter_map-append given_line (attempt events) (event ∷ [])
+
+-- an event that is no start and no save
+pub record IsPlain (event : Event) : Type 0 where
+  pub no_start : (plan : AttemptPlan) → event ≡ Started plan → ⊥
+  pub no_save : (text : List ℕ) → event ≡ Saved text → ⊥
+
+abbrev pub IsAhead : List Event → List (List ℕ) → Type 0
+IsAhead events rest = reads events ≡ gives events ++ rest
+
+plain_so_far : (stream : List ℕ) (events : List Event) (event : Event) (rest : List (List ℕ)) → IsPlain event → IsAhead (events ++ event ∷ []) rest → IsSafeSoFar stream (events ++ event ∷ [])
+plain_so_far stream events event rest plain ahead = record {
+  given = (rest, ahead);
+  started = λ before plan e. absurd (plain.no_start plan (more_last events before event (Started plan) e));
+  saved = λ before text e. absurd (plain.no_save text (more_last events before event (Saved text) e));
+}
+
+even_ahead : (events : List Event) → IsEven events → IsAhead events []
+even_ahead events even = even ∙ sym (append-nil (gives events))
+
+-- an event that is no line, behind events in which all that was read was given
+pub record IsNeutral (event : Event) : Type 0 where
+  pub plain : IsPlain event
+  pub goes_on : (events : List Event) → attempt_after events event ≡ events ++ event ∷ []
+  pub not_read : filter_map read_line (event ∷ []) ≡ []
+  pub not_given : filter_map given_line (event ∷ []) ≡ []
+
+neutral_even : (events : List Event) (event : Event) → IsNeutral event → IsEven events → IsEven (events ++ event ∷ [])
+neutral_even events event neutral even =
+    (reads_more events event (neutral.goes_on (attempt events)) ∙ (ap (λ (ls : List (List ℕ)). reads events ++ ls) neutral.not_read ∙ (append-nil (reads events) ∙ (even ∙ sym (ap (λ (ls : List (List ℕ)). gives events ++ ls) neutral.not_given ∙ append-nil (gives events)))))) ∙ sym (gives_more events event (neutral.goes_on (attempt events)))
+
+-- what stands so far: safe, and all that was read was given
+pub record IsSafeEven (stream : List ℕ) (events : List Event) : Type 0 where
+  pub safe : IsSafeSync stream events
+  pub even : IsEven events
+
+pub neutral_more : (stream : List ℕ) (events : List Event) (event : Event) → IsNeutral event → IsSafeEven stream events → IsSafeEven stream (events ++ event ∷ [])
+neutral_more stream events event neutral s = record {
+  safe = safe_more stream events event s.safe (plain_so_far stream events event [] neutral.plain (even_ahead (events ++ event ∷ []) even));
+  even = even;
+}
+  where
+    even : IsEven (events ++ event ∷ [])
+    even = neutral_even events event neutral s.even
+
+took_neutral : (line : List ℕ) → IsNeutral (Took line)
+took_neutral line = record { plain = record { no_start = λ plan e. cc; no_save = λ text e. cc }; goes_on = λ events. refl; not_read = refl; not_given = refl }
+
+committed_neutral : (stream : ℕ) (rows : List RawRow) → IsNeutral (Committed stream rows)
+committed_neutral stream rows = record { plain = record { no_start = λ plan e. cc; no_save = λ text e. cc }; goes_on = λ events. refl; not_read = refl; not_given = refl }
+
+emitted_neutral : (line : List ℕ) → IsNeutral (Emitted line)
+emitted_neutral line = record { plain = record { no_start = λ plan e. cc; no_save = λ text e. cc }; goes_on = λ events. refl; not_read = refl; not_given = refl }
+
+got_neutral : (line : List ℕ) → IsNeutral (Got line)
+got_neutral line = record { plain = record { no_start = λ plan e. cc; no_save = λ text e. cc }; goes_on = λ events. refl; not_read = refl; not_given = refl }
+
+-- a line is read, and then given
+pub line_more : (stream : List ℕ) (events : List Event) (line : List ℕ) → IsSafeEven stream events → IsSafeEven stream ((events ++ ReadLine line ∷ []) ++ Given line ∷ [])
+line_more stream events line s = record {
+  safe = safe_more stream (events ++ ReadLine line ∷ []) (Given line) read_safe (plain_so_far stream (events ++ ReadLine line ∷ []) (Given line) [] (record { no_start = λ plan e. cc; no_save = λ text e. cc }) (even_ahead ((events ++ ReadLine line ∷ []) ++ Given line ∷ []) even));
+  even = even;
+}
+  where
+    read_reads : reads (events ++ ReadLine line ∷ []) ≡ reads events ++ line ∷ []
+    read_reads = reads_more events (ReadLine line) refl
+
+    read_gives : gives (events ++ ReadLine line ∷ []) ≡ gives events
+    read_gives = gives_more events (ReadLine line) refl ∙ append-nil (gives events)
+
+    ahead : IsAhead (events ++ ReadLine line ∷ []) (line ∷ [])
+    ahead = read_reads ∙ (ap (λ (ls : List (List ℕ)). ls ++ line ∷ []) s.even ∙ sym (ap (λ (ls : List (List ℕ)). ls ++ line ∷ []) read_gives))
+
+    read_safe : IsSafeSync stream (events ++ ReadLine line ∷ [])
+    read_safe = safe_more stream events (ReadLine line) s.safe (plain_so_far stream events (ReadLine line) (line ∷ []) (record { no_start = λ plan e. cc; no_save = λ text e. cc }) ahead)
+
+    even : IsEven ((events ++ ReadLine line ∷ []) ++ Given line ∷ [])
+    even =
+        (reads_more (events ++ ReadLine line ∷ []) (Given line) refl ∙ (append-nil (reads (events ++ ReadLine line ∷ [])) ∙ ahead)) ∙ sym (gives_more (events ++ ReadLine line ∷ []) (Given line) refl)
+
+-- a state is saved
+pub save_more : (stream : List ℕ) (events : List Event) (text : List ℕ) → IsSafeEven stream events → SavesNothing stream events text ⊎ SavesTaken stream events text → IsSafeEven stream (events ++ Saved text ∷ [])
+save_more stream events text s saves = record {
+  safe = safe_more stream events (Saved text) s.safe (record {
+    given = ([], even_ahead (events ++ Saved text ∷ []) even);
+    started = λ before plan e. absurd (other plan (more_last events before (Saved text) (Started plan) e));
+    saved = λ before other e. moved before other (more_front events before (Saved text) (Saved other) e) (same other (more_last events before (Saved text) (Saved other) e));
+  });
+  even = even;
+}
+  where
+    even : IsEven (events ++ Saved text ∷ [])
+    even =
+        (reads_more events (Saved text) refl ∙ (append-nil (reads events) ∙ (s.even ∙ sym (append-nil (gives events))))) ∙ sym (gives_more events (Saved text) refl)
+
+    other : (plan : AttemptPlan) → Saved text ≡ Started plan → ⊥
+    other plan e = cc
+
+    same : (other : List ℕ) → Saved text ≡ Saved other → text ≡ other
+    same other e = cc
+
+    moved : (before : List Event) (other : List ℕ) → events ≡ before → text ≡ other → SavesNothing stream before other ⊎ SavesTaken stream before other
+    moved before other e f = subst (λ (es : List Event). SavesNothing stream es other ⊎ SavesTaken stream es other) e (subst (λ (t : List ℕ). SavesNothing stream events t ⊎ SavesTaken stream events t) f saves)
+
+-- before the first line
+
+none_safe : (stream : List ℕ) → IsSafeEven stream []
+none_safe stream = record { safe = safe; even = refl }
+  where
+    so_far : IsSafeSoFar stream []
+    so_far = record {
+      given = ([], refl);
+      started = λ before plan e. absurd (nil_more before (Started plan) e);
+      saved = λ before text e. absurd (nil_more before (Saved text) e);
+    }
+
+    nothing_in : (front rest : List Event) → [] ≡ front ++ rest → front ≡ []
+    nothing_in [] rest e = refl
+    nothing_in (x ∷ front) rest e = absurd (cc)
+
+    safe : (front rest : List Event) → [] ≡ front ++ rest → IsSafeSoFar stream front
+    safe front rest e = subst (λ (es : List Event). IsSafeSoFar stream es) (sym (nothing_in front rest e)) so_far
+
+-- the events before the start
+abbrev opened_events : List ℕ → List Event
+opened_events stream = Opened 1 0 (stream_plan stream ∷ []) ∷ Saved (store_text stream None) ∷ []
+
+opened_safe : (stream : List ℕ) → IsSafeEven stream (opened_events stream)
+opened_safe stream = save_more stream (Opened 1 0 (stream_plan stream ∷ []) ∷ []) (store_text stream None) (neutral_more stream [] (Opened 1 0 (stream_plan stream ∷ [])) opened_neutral (none_safe stream)) (inl (record { first = refl; is = refl }))
+  where
+    opened_neutral : IsNeutral (Opened 1 0 (stream_plan stream ∷ []))
+    opened_neutral = record { plain = record { no_start = λ plan e. cc; no_save = λ t e. cc }; goes_on = λ events. refl; not_read = refl; not_given = refl }
+
+pub first_safe : (stream : List ℕ) → IsSafeEven stream (first_events stream)
+first_safe stream = record {
+  safe = safe_more stream (opened_events stream) (Started attempt_plan) (opened_safe stream).safe (record {
+    given = ([], refl);
+    started = λ before plan e. moved before plan (more_front (opened_events stream) before (Started attempt_plan) (Started plan) e) (same plan (more_last (opened_events stream) before (Started attempt_plan) (Started plan) e));
+    saved = λ before other e. absurd (no_save other (more_last (opened_events stream) before (Started attempt_plan) (Saved other) e));
+  });
+  even = refl;
+}
+  where
+    same : (plan : AttemptPlan) → Started attempt_plan ≡ Started plan → attempt_plan ≡ plan
+    same plan e = cc
+
+    no_save : (other : List ℕ) → Started attempt_plan ≡ Saved other → ⊥
+    no_save other e = cc
+
+    moved : (before : List Event) (plan : AttemptPlan) → opened_events stream ≡ before → attempt_plan ≡ plan → StartsSafely stream before plan
+    moved before plan e f = subst (λ (es : List Event). StartsSafely stream es plan) e (subst (λ (p : AttemptPlan). StartsSafely stream (opened_events stream) p) f (record { held = None; stored = refl; states = refl }))
+
+-- what stands in the attempt behind the lines that were taken
+
+-- events without a start
+abbrev HasNoStart : List Event → Type 0
+HasNoStart [] = Unit {0}
+HasNoStart (Started plan ∷ events) = ⊥
+HasNoStart (event ∷ events) = HasNoStart events
+
+attempt_behind : (before events : List Event) → HasNoStart events → fold attempt_after before events ≡ before ++ events
+attempt_behind before [] none = sym (append-nil before)
+attempt_behind before (Started plan ∷ events) none = absurd none
+attempt_behind before (event ∷ events) none = attempt_behind (before ++ event ∷ []) events none ∙ append_assoc before (event ∷ []) events
+
+no_start_append : (events more : List Event) → HasNoStart events → HasNoStart more → HasNoStart (events ++ more)
+no_start_append [] more a b = b
+no_start_append (Started plan ∷ events) more a b = absurd a
+no_start_append (event ∷ events) more a b = no_start_append events more a b
+
+rounds_start_nothing : (stream : List ℕ) (counted : Counted) (rounds : List Round) → HasNoStart (rounds_events stream counted rounds)
+rounds_start_nothing stream counted [] = tt
+rounds_start_nothing stream counted (record_round line content ∷ rounds) = rounds_start_nothing stream (counted_after counted (record_round line content)) rounds
+rounds_start_nothing stream counted (state_round line state echo ∷ rounds) = rounds_start_nothing stream (counted_after counted (state_round line state echo)) rounds
+
+attempt_is : (stream : List ℕ) (events : List Event) → HasNoStart events → attempt (first_events stream ++ events) ≡ events
+attempt_is stream events none = attempt_behind [] events none
+
+-- the echoes of the states, and the records
+abbrev echoes_of : List Round → List (List ℕ)
+echoes_of [] = []
+echoes_of (record_round line content ∷ rounds) = echoes_of rounds
+echoes_of (state_round line state echo ∷ rounds) = echo ∷ echoes_of rounds
+
+abbrev records_of : List Message → List RecordMsg
+records_of [] = []
+records_of (message.Rec content ∷ messages) = content ∷ records_of messages
+records_of (message.State state ∷ messages) = records_of messages
+
+rounds_reads : (stream : List ℕ) (counted : Counted) (rounds : List Round) → filter_map read_line (rounds_events stream counted rounds) ≡ map round_line rounds
+rounds_reads stream counted [] = refl
+rounds_reads stream counted (record_round line content ∷ rounds) = ap (λ (ls : List (List ℕ)). line ∷ ls) (rounds_reads stream (counted_after counted (record_round line content)) rounds)
+rounds_reads stream counted (state_round line state echo ∷ rounds) = ap (λ (ls : List (List ℕ)). line ∷ ls) (rounds_reads stream (counted_after counted (state_round line state echo)) rounds)
+
+rounds_got : (stream : List ℕ) (counted : Counted) (rounds : List Round) → filter_map got_line (rounds_events stream counted rounds) ≡ echoes_of rounds
+rounds_got stream counted [] = refl
+rounds_got stream counted (record_round line content ∷ rounds) = rounds_got stream (counted_after counted (record_round line content)) rounds
+rounds_got stream counted (state_round line state echo ∷ rounds) = ap (λ (ls : List (List ℕ)). echo ∷ ls) (rounds_got stream (counted_after counted (state_round line state echo)) rounds)
+
+-- the rows of these records, numbered from here on
+abbrev rows_from : ℕ → List RecordMsg → List RawRow
+rows_from number [] = []
+rows_from number (content ∷ contents) = row_of number content ∷ rows_from (number + 1) contents
+
+rounds_rows : (stream : List ℕ) (counted : Counted) (rounds : List Round) → flat_map rows_of (rounds_events stream counted rounds) ≡ rows_from counted.records (records_of (messages_of rounds))
+rounds_rows stream counted [] = refl
+rounds_rows stream counted (record_round line content ∷ rounds) = ap (λ (rows : List RawRow). row_of counted.records content ∷ rows) (rounds_rows stream (counted_after counted (record_round line content)) rounds)
+rounds_rows stream counted (state_round line state echo ∷ rounds) = rounds_rows stream (counted_after counted (state_round line state echo)) rounds
+
+are_messages : (stream : List ℕ) (counted : Counted) (rounds : List Round) → AreRounds stream counted rounds → AreMessages (map round_line rounds) (messages_of rounds)
+are_messages stream counted [] are = tt
+are_messages stream counted (record_round line content ∷ rounds) are = (are.0.message.is, are_messages stream (counted_after counted (record_round line content)) rounds are.1)
+are_messages stream counted (state_round line state echo ∷ rounds) are = (are.0.message.is, are_messages stream (counted_after counted (state_round line state echo)) rounds are.1)
+
+-- each echo takes its own state
+takes_all : (stream : List ℕ) (counted : Counted) (rounds : List Round) (before : List RecordMsg) → AreRounds stream counted rounds → Takes (echoes_of rounds) (states_behind before (messages_of rounds)) (states_behind before (messages_of rounds))
+takes_all stream counted [] before are = refl
+takes_all stream counted (record_round line content ∷ rounds) before are = takes_all stream (counted_after counted (record_round line content)) rounds (before ++ content ∷ []) are.1
+takes_all stream counted (state_round line state echo ∷ rounds) before are =
+    let behind = states_behind before (messages_of rounds) in
+    ([], record { state = state; before = before }, behind, behind, refl, tt, (counted.since, are.0.echoed), refl, takes_all stream (counted_after counted (state_round line state echo)) rounds before are.1)
+
+states_behind-state : (before : List RecordMsg) (messages : List Message) (state : StateMsg) → states_behind before (messages ++ message.State state ∷ []) ≡ states_behind before messages ++ record { state = state; before = before ++ records_of messages } ∷ []
+states_behind-state before [] state = ap (λ (contents : List RecordMsg). record { state = state; before = contents } ∷ []) (sym (append-nil before))
+states_behind-state before (message.Rec content ∷ messages) state =
+    states_behind-state (before ++ content ∷ []) messages state ∙ ap (λ (contents : List RecordMsg). states_behind (before ++ content ∷ []) messages ++ record { state = state; before = contents } ∷ []) (append_assoc before (content ∷ []) (records_of messages))
+states_behind-state before (message.State other ∷ messages) state = ap (λ (states : List ReadState). record { state = other; before = before } ∷ states) (states_behind-state before messages state)
+
+-- each record stands among the rows under its number
+each_row : (rows : List RawRow) (state : StateMsg) (number : ℕ) (contents : List RecordMsg) → ((row : RawRow) → Contains (rows_from number contents) row → Contains rows row) → AllByRecursion (λ numbered. Covers state numbered.1 → Contains rows (row_of numbered.0 numbered.1)) (enumerate_from number contents)
+each_row rows state number [] has = tt
+each_row rows state number (content ∷ contents) has = (
+  λ covers. has (row_of number content) (Contains-append_left (row_of number content ∷ []) (rows_from (number + 1) contents) (row_of number content) (here (row_of number content))),
+  each_row rows state (number + 1) contents (λ row within. has row (Contains-append_right (row_of number content ∷ []) (rows_from (number + 1) contents) row within)),
+)
+  where
+    here : (row : RawRow) → Contains (row ∷ []) row
+    here row = search rules
+
+-- a state's line, up to its echo
+abbrev front_of_state : List ℕ → List ℕ → List Event
+front_of_state line echo = ReadLine line ∷ Given line ∷ Took line ∷ Emitted echo ∷ Got echo ∷ []
+
+-- the text saves the state that the last echo takes, and the records before it stand committed
+-- the rounds with a state behind them
+abbrev and_state : List Round → List ℕ → StateMsg → List ℕ → List Round
+and_state rounds line state echo = rounds ++ state_round line state echo ∷ []
+
+saves_state : (stream line echo : List ℕ) (rounds : List Round) (state : StateMsg) → AreRounds stream none_counted rounds → FitsState stream (counted_through none_counted rounds).since line state echo → SavesTaken stream (first_events stream ++ (rounds_events stream none_counted rounds ++ front_of_state line echo)) (store_text stream (Some state.object))
+saves_state stream line echo rounds state are fits = record {
+  messages = messages_of (and_state rounds line state echo);
+  are = subst (λ (ls : List (List ℕ)). AreMessages ls (messages_of (and_state rounds line state echo))) (sym read) (are_messages stream none_counted (and_state rounds line state echo) are_all);
+  taken = states_behind [] (messages_of rounds);
+  last = record { state = state; before = records_of (messages_of rounds) };
+  takes = subst (λ (ls : List (List ℕ)). Takes ls (states_behind [] (messages_of (and_state rounds line state echo))) (states_behind [] (messages_of rounds) ++ record { state = state; before = records_of (messages_of rounds) } ∷ [])) (sym got) (subst (λ (ss : List ReadState). Takes (echoes_of (and_state rounds line state echo)) (states_behind [] (messages_of (and_state rounds line state echo))) ss) states (takes_all stream none_counted (and_state rounds line state echo) [] are_all));
+  is = refl;
+  committed = each_row (flat_map rows_of (attempt (first_events stream ++ (rounds_events stream none_counted rounds ++ front_of_state line echo)))) state 0 (records_of (messages_of rounds)) (λ row within. subst (λ (rows : List RawRow). Contains rows row) (sym rows_are) within);
+}
+  where
+    are_all : AreRounds stream none_counted (rounds ++ state_round line state echo ∷ [])
+    are_all = AreRounds-more stream none_counted rounds (state_round line state echo) are fits
+
+    attempt_events : attempt (first_events stream ++ (rounds_events stream none_counted rounds ++ front_of_state line echo)) ≡ rounds_events stream none_counted rounds ++ front_of_state line echo
+    attempt_events = attempt_is stream (rounds_events stream none_counted rounds ++ front_of_state line echo) (no_start_append (rounds_events stream none_counted rounds) (front_of_state line echo) (rounds_start_nothing stream none_counted rounds) tt)
+
+    read : filter_map read_line (attempt (first_events stream ++ (rounds_events stream none_counted rounds ++ front_of_state line echo))) ≡ map round_line (rounds ++ state_round line state echo ∷ [])
+    read =
+        ap (λ (es : List Event). filter_map read_line es) attempt_events ∙ (filter_map-append read_line (rounds_events stream none_counted rounds) (front_of_state line echo) ∙ (ap (λ (ls : List (List ℕ)). ls ++ line ∷ []) (rounds_reads stream none_counted rounds) ∙ sym (map-append round_line rounds (state_round line state echo ∷ []))))
+
+    got : filter_map got_line (attempt (first_events stream ++ (rounds_events stream none_counted rounds ++ front_of_state line echo))) ≡ echoes_of (rounds ++ state_round line state echo ∷ [])
+    got =
+        ap (λ (es : List Event). filter_map got_line es) attempt_events ∙ (filter_map-append got_line (rounds_events stream none_counted rounds) (front_of_state line echo) ∙ (ap (λ (ls : List (List ℕ)). ls ++ echo ∷ []) (rounds_got stream none_counted rounds) ∙ sym (echoes_more rounds)))
+      where
+        echoes_more : (rs : List Round) → echoes_of (rs ++ state_round line state echo ∷ []) ≡ echoes_of rs ++ echo ∷ []
+        echoes_more [] = refl
+        echoes_more (record_round l content ∷ rs) = echoes_more rs
+        echoes_more (state_round l s e ∷ rs) = ap (λ (ls : List (List ℕ)). e ∷ ls) (echoes_more rs)
+
+    states : states_behind [] (messages_of (rounds ++ state_round line state echo ∷ [])) ≡ states_behind [] (messages_of rounds) ++ record { state = state; before = records_of (messages_of rounds) } ∷ []
+    states = ap (λ (ms : List Message). states_behind [] ms) (messages_of-more rounds (state_round line state echo)) ∙ states_behind-state [] (messages_of rounds) state
+
+    rows_are : flat_map rows_of (attempt (first_events stream ++ (rounds_events stream none_counted rounds ++ front_of_state line echo))) ≡ rows_from 0 (records_of (messages_of rounds))
+    rows_are =
+        ap (λ (es : List Event). flat_map rows_of es) attempt_events ∙ (flat_map-append rows_of (rounds_events stream none_counted rounds) (front_of_state line echo) ∙ (append-nil (flat_map rows_of (rounds_events stream none_counted rounds)) ∙ rounds_rows stream none_counted rounds))
+
+-- one line more, behind those that were taken
+record_more : (stream line : List ℕ) (events : List Event) (number : ℕ) (content : RecordMsg) → IsSafeEven stream events → IsSafeEven stream (events ++ record_events line number content)
+record_more stream line events number content s =
+    subst (λ (es : List Event). IsSafeEven stream es) regrouped (neutral_more stream (((events ++ ReadLine line ∷ []) ++ Given line ∷ []) ++ Took line ∷ []) (Committed 0 (row_of number content ∷ [])) (committed_neutral 0 (row_of number content ∷ [])) (neutral_more stream ((events ++ ReadLine line ∷ []) ++ Given line ∷ []) (Took line) (took_neutral line) (line_more stream events line s)))
+  where
+    regrouped : (((events ++ ReadLine line ∷ []) ++ Given line ∷ []) ++ Took line ∷ []) ++ Committed 0 (row_of number content ∷ []) ∷ [] ≡ events ++ record_events line number content
+    regrouped = simp append_assoc
+
+state_more : (stream line echo : List ℕ) (events : List Event) (object : List ℕ) → IsSafeEven stream events → SavesTaken stream (events ++ front_of_state line echo) (store_text stream (Some object)) → IsSafeEven stream (events ++ state_events stream line object echo)
+state_more stream line echo events object s saves =
+    subst (λ (es : List Event). IsSafeEven stream es) ended (save_more stream (events ++ front_of_state line echo) (store_text stream (Some object)) (subst (λ (es : List Event). IsSafeEven stream es) regrouped got) (inr saves))
+  where
+    got : IsSafeEven stream (((((events ++ ReadLine line ∷ []) ++ Given line ∷ []) ++ Took line ∷ []) ++ Emitted echo ∷ []) ++ Got echo ∷ [])
+    got = neutral_more stream ((((events ++ ReadLine line ∷ []) ++ Given line ∷ []) ++ Took line ∷ []) ++ Emitted echo ∷ []) (Got echo) (got_neutral echo) (neutral_more stream (((events ++ ReadLine line ∷ []) ++ Given line ∷ []) ++ Took line ∷ []) (Emitted echo) (emitted_neutral echo) (neutral_more stream ((events ++ ReadLine line ∷ []) ++ Given line ∷ []) (Took line) (took_neutral line) (line_more stream events line s)))
+
+    regrouped : ((((events ++ ReadLine line ∷ []) ++ Given line ∷ []) ++ Took line ∷ []) ++ Emitted echo ∷ []) ++ Got echo ∷ [] ≡ events ++ front_of_state line echo
+    regrouped = simp append_assoc
+
+    ended : (events ++ front_of_state line echo) ++ Saved (store_text stream (Some object)) ∷ [] ≡ events ++ state_events stream line object echo
+    ended = append_assoc events (front_of_state line echo) (Saved (store_text stream (Some object)) ∷ [])
+
+round_more : (stream : List ℕ) (rounds : List Round) (round : Round) → AreRounds stream none_counted rounds → Fits stream (counted_through none_counted rounds) round → IsSafeEven stream (first_events stream ++ rounds_events stream none_counted rounds) → IsSafeEven stream ((first_events stream ++ rounds_events stream none_counted rounds) ++ round_events stream (counted_through none_counted rounds) round)
+round_more stream rounds (record_round line content) are fits s = record_more stream line (first_events stream ++ rounds_events stream none_counted rounds) (counted_through none_counted rounds).records content s
+round_more stream rounds (state_round line state echo) are fits s =
+    state_more stream line echo (first_events stream ++ rounds_events stream none_counted rounds) state.object s (subst (λ (es : List Event). SavesTaken stream es (store_text stream (Some state.object))) (sym (append_assoc (first_events stream) (rounds_events stream none_counted rounds) (front_of_state line echo))) (saves_state stream line echo rounds state are fits))
+
+-- all lines that were taken
+rounds_safe : (stream : List ℕ) (done todo : List Round) → AreRounds stream none_counted done → AreRounds stream (counted_through none_counted done) todo → IsSafeEven stream (first_events stream ++ rounds_events stream none_counted done) → IsSafeEven stream (first_events stream ++ rounds_events stream none_counted (done ++ todo))
+rounds_safe stream done [] are rest s = subst (λ (rs : List Round). IsSafeEven stream (first_events stream ++ rounds_events stream none_counted rs)) (sym (append-nil done)) s
+rounds_safe stream done (round ∷ todo) are rest s =
+    subst (λ (rs : List Round). IsSafeEven stream (first_events stream ++ rounds_events stream none_counted rs)) (append_assoc done (round ∷ []) todo) (rounds_safe stream (done ++ round ∷ []) todo (AreRounds-more stream none_counted done round are rest.0) (subst (λ (c : Counted). AreRounds stream c todo) (sym (counted_through-more none_counted done round)) rest.1) one_more)
+  where
+    one_more : IsSafeEven stream (first_events stream ++ rounds_events stream none_counted (done ++ round ∷ []))
+    one_more =
+        subst (λ (es : List Event). IsSafeEven stream es) (append_assoc (first_events stream) (rounds_events stream none_counted done) (round_events stream (counted_through none_counted done) round) ∙ ap (λ (es : List Event). first_events stream ++ es) (sym (rounds_events-more stream none_counted done round))) (round_more stream done round are rest.0 s)
+
+-- the end of the attempt
+neutral_read_end : IsNeutral ReadEnd
+neutral_read_end = record { plain = record { no_start = λ plan e. cc; no_save = λ text e. cc }; goes_on = λ events. refl; not_read = refl; not_given = refl }
+
+neutral_closed : IsNeutral Closed
+neutral_closed = record { plain = record { no_start = λ plan e. cc; no_save = λ text e. cc }; goes_on = λ events. refl; not_read = refl; not_given = refl }
+
+neutral_took_end : IsNeutral TookEnd
+neutral_took_end = record { plain = record { no_start = λ plan e. cc; no_save = λ text e. cc }; goes_on = λ events. refl; not_read = refl; not_given = refl }
+
+neutral_got_end : IsNeutral GotEnd
+neutral_got_end = record { plain = record { no_start = λ plan e. cc; no_save = λ text e. cc }; goes_on = λ events. refl; not_read = refl; not_given = refl }
+
+neutral_ended : (ends : Codes) → IsNeutral (Ended ends)
+neutral_ended ends = record { plain = record { no_start = λ plan e. cc; no_save = λ text e. cc }; goes_on = λ events. refl; not_read = refl; not_given = refl }
+
+abbrev both_ended : Codes
+both_ended = record { source = Some (exit.Code 0); dest = Some (exit.Code 0) }
+
+ending_safe : (stream : List ℕ) (events : List Event) (is_over : Bool) → IsSafeEven stream events → IsSafeEven stream (events ++ ending_events is_over)
+ending_safe stream events true s =
+    subst (λ (es : List Event). IsSafeEven stream es) regrouped (neutral_more stream ((((events ++ ReadEnd ∷ []) ++ Closed ∷ []) ++ TookEnd ∷ []) ++ GotEnd ∷ []) (Ended both_ended) (neutral_ended both_ended) (neutral_more stream (((events ++ ReadEnd ∷ []) ++ Closed ∷ []) ++ TookEnd ∷ []) GotEnd neutral_got_end (neutral_more stream ((events ++ ReadEnd ∷ []) ++ Closed ∷ []) TookEnd neutral_took_end (neutral_more stream (events ++ ReadEnd ∷ []) Closed neutral_closed (neutral_more stream events ReadEnd neutral_read_end s)))))
+  where
+    regrouped : ((((events ++ ReadEnd ∷ []) ++ Closed ∷ []) ++ TookEnd ∷ []) ++ GotEnd ∷ []) ++ Ended both_ended ∷ [] ≡ events ++ last_events
+    regrouped = simp append_assoc
+ending_safe stream events false s = subst (λ (es : List Event). IsSafeEven stream es) (sym (append-nil events)) s
+
+-- the events of a world that is reached are a safe sync
+pub reached_safe : (world : World) → IsReached world → IsSafeSync world.stream world.events
+reached_safe world r =
+    subst (λ (es : List Event). IsSafeSync world.stream es) (sym r.events) (ending_safe world.stream (first_events world.stream ++ rounds_events world.stream none_counted r.rounds) world.is_over (rounds_safe world.stream [] r.rounds tt r.fits started)).safe
+  where
+    started : IsSafeEven world.stream (first_events world.stream ++ [])
+    started = subst (λ (es : List Event). IsSafeEven world.stream es) (sym (append-nil (first_events world.stream))) (first_safe world.stream)
