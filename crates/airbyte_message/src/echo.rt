@@ -2,7 +2,8 @@
 ghost use Rattle.std.specs.Prelude.{◌≡◌, ◌++◌, All, IfOk, OnOk};
 ghost use Rattle.json_span.specs.Members.{IsMemberOf};
 ghost use Rattle.airbyte_message.specs.Echo.{IsEcho, PushesKept, member_text};
-ghost use Rattle.airbyte_message.specs.Messages.{NestsWithin, state_depth};
+ghost use Rattle.airbyte_message.specs.Parts.{NestsWithin};
+ghost use Rattle.airbyte_message.specs.States.{state_depth};
 
 use crate::StateMsg;
 use json_fields::cut;
