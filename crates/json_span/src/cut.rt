@@ -1,18 +1,17 @@
-// Cutting a text into the members of its object, or the elements of its array.
+// Cutting a text into the members of its object.
 ghost use Rattle.std.specs.Prelude.{◌≡◌, All, IfOk, IsErrOf, IsTrue, ◌↔◌};
 ghost use Rattle.json_span.specs.Members.{AreMembers, IsNoObject, IsDeeper, HasOnlyMembers, IsMemberOf, IsValue, IsSomeObject, NoObjectInFront};
-ghost use Rattle.json_span.specs.Elements.{AreElements, IsNoArray, IsDeeperArray, HasOnlyElements, IsElementOf, IsSomeArray};
 ghost use Rattle.json_span.specs.Machine.{read_whole};
 
 use crate::machine::Machine;
 use crate::phase::{Frame, is_done, run_at};
 use crate::skip::skip;
-use crate::{MAX_DEPTH, MemberList, SpanFault, SpanList};
+use crate::{MAX_DEPTH, MemberList, SpanFault};
 use outside::NoMemory;
 use std::alloc::Global;
 
 /// What the machine makes of the whole text, where it wants an array or an object.
-fn read(alloc: Global, text: &[u8], frame: Frame) -> Result<Machine, NoMemory>
+pub fn read(alloc: Global, text: &[u8], frame: Frame) -> Result<Machine, NoMemory>
     ensures { IfOk result (λ machine. machine ≡ read_whole frame text.now) }
 {
     let mut machine = Machine::new(alloc, frame);
@@ -60,55 +59,12 @@ pub fn members(alloc: Global, text: &[u8]) -> Result<MemberList, SpanFault>
     members_within(alloc, text, MAX_DEPTH)
 }
 
-/// Cuts an array that nests at most `limit` deep into its elements.
-pub fn elements_within(alloc: Global, text: &[u8], limit: usize) -> Result<SpanList, SpanFault>
-    ensures found { IfOk result (AreElements limit text.now) }
-    ensures only { IfOk result (HasOnlyElements limit text.now) }
-    ensures parts { IfOk result (All (IsElementOf text.now)) }
-    ensures not_array { IsErrOf result SpanFault.NotArray → IsNoArray text.now }
-    ensures too_deep { IsErrOf result SpanFault.TooDeep → IsDeeperArray limit text.now }
-    ensures never_not_object { ¬ IsErrOf result SpanFault.NotObject }
-{
-    if !simdutf8::is_utf8(text) {
-        return Err(SpanFault::NotArray);
-    }
-    let machine = read(alloc, text, Frame::Array)?;
-    if !is_done(machine.phase) {
-        return Err(SpanFault::NotArray);
-    }
-    if machine.deepest > limit {
-        return Err(SpanFault::TooDeep);
-    }
-    let cutter = machine.cutter;
-    Ok(cutter.elements)
-}
-
-/// Cuts an array that nests at most 127 deep into its elements.
-pub fn elements(alloc: Global, text: &[u8]) -> Result<SpanList, SpanFault>
-    ensures found { IfOk result (AreElements MAX_DEPTH text.now) }
-    ensures only { IfOk result (HasOnlyElements MAX_DEPTH text.now) }
-    ensures parts { IfOk result (All (IsElementOf text.now)) }
-    ensures not_array { IsErrOf result SpanFault.NotArray → IsNoArray text.now }
-    ensures too_deep { IsErrOf result SpanFault.TooDeep → IsDeeperArray MAX_DEPTH text.now }
-    ensures never_not_object { ¬ IsErrOf result SpanFault.NotObject }
-{
-    elements_within(alloc, text, MAX_DEPTH)
-}
-
 /// Whether a JSON value is an object. It looks at the first byte.
 pub fn is_object(text: &[u8]) -> bool
     requires { IsValue text.now }
     ensures { IsTrue result ↔ IsSomeObject text.now }
 {
     text[0] == b'{'
-}
-
-/// Whether a JSON value is an array. It looks at the first byte.
-pub fn is_array(text: &[u8]) -> bool
-    requires { IsValue text.now }
-    ensures { IsTrue result ↔ IsSomeArray text.now }
-{
-    text[0] == b'['
 }
 
 /// A law: what stands in front of the end of an object is no object, where the end is no white space.

@@ -66,6 +66,7 @@ impl From<NoMemory> for SpanFault {
     }
 }
 
+mod array;
 mod class;
 mod cut;
 mod cutter;
@@ -75,6 +76,5 @@ mod phase;
 mod skip;
 mod table;
 
-pub use cut::{
-    elements, elements_within, is_array, is_object, members, members_within, no_object_in_front,
-};
+pub use array::{elements, elements_within, is_array};
+pub use cut::{is_object, members, members_within, no_object_in_front};
