@@ -20,8 +20,9 @@ pub fn cut(alloc: Global, text: &[u8], limit: usize) -> Result<Option<MemberList
 {
     match members_within(alloc, text, limit) {
         Ok(members) => Ok(Some(members)),
-        Err(SpanFault::NotObject | SpanFault::TooDeep) => Ok(None),
-        // An object's members are never refused so.
+        Err(SpanFault::NotObject) => Ok(None),
+        Err(SpanFault::TooDeep) => Ok(None),
+        // Members are never refused so.
         Err(SpanFault::NotArray) => Ok(None),
         Err(SpanFault::NoMemory) => Err(NoMemory),
     }
