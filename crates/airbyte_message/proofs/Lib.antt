@@ -1,1 +1,6 @@
+pub mod AnswerLemmas
+pub mod EchoLemmas
 pub mod MessageLemmas
+pub mod PartLemmas
+pub mod StateLemmas
+pub mod TraceLemmas

@@ -2,7 +2,7 @@
 -- the table does not name is not read.
 use Rattle.std.specs.Prelude.{◌≡◌, ℕ, List, Option, None, Some, codes}
 use Rattle.json_fields.specs.Fields.{HasField, HasOptional, HasText, HasOptionalText}
-use Rattle.airbyte_message.specs.Parts.{HasCount, HasObject, IsStreamId}
+use Rattle.airbyte_message.specs.Parts.{HasArray, HasCount, HasObject, IsStreamId}
 use Rattle.airbyte_message.specs.Words.{level_text, connection_text, type_text, payload_text}
 use Rattle.airbyte_message.specs.States.{IsState}
 use Rattle.airbyte_message.specs.Traces.{IsTrace}
@@ -41,7 +41,7 @@ pub record IsConnection (text : List ℕ) (content : ConnectionMsg) : Type 0 whe
 
 -- the `catalog` of a CATALOG line
 pub record IsCatalog (text : List ℕ) (content : CatalogMsg) : Type 0 where
-  pub streams : ⊥
+  pub streams : HasArray text (codes "streams") content.streams
 
 -- the `control` of a CONTROL line
 pub record IsControl (text : List ℕ) (content : ControlMsg) : Type 0 where

@@ -1,10 +1,12 @@
 -- Members of the forms that messages have in common. An optional member that is `null` counts as absent.
-use Rattle.std.specs.Prelude.{◌≡◌, ℕ, ◌<◌, ◌^◌, List, Option, None, Some, codes}
+use Rattle.std.specs.Prelude.{◌≡◌, ℕ, ◌<◌, ◌^◌, List, Option, None, Some, All, codes}
 use Rattle.json_scalar.specs.Number.{IsWhole, Literal, literal_text}
 use Rattle.json_span.specs.Members.{AreMembers, IsSomeObject}
+use Rattle.json_span.specs.Elements.{AreElements, IsElementOf, IsSomeArray}
+use Rattle.json_span.specs.declared.Span.{Span}
 use Rattle.json_span.specs.declared.Member.{Member}
 use Rattle.outside.specs.declared.event.StreamId.{StreamId}
-use Rattle.json_fields.specs.Fields.{HasField, HasOptional, HasText, HasOptionalText}
+use Rattle.json_fields.specs.Fields.{HasField, HasOptional, HasText, HasOptionalText, line_depth}
 
 -- a whole number below 2^63
 pub record IsCount (text : List ℕ) (count : ℕ) : Type 0 where
@@ -37,6 +39,11 @@ pub record HasObject (text name held : List ℕ) : Type 0 where
   pub field : HasField text name held
   pub object : IsSomeObject held
 
+-- the member of this name is an array
+pub record HasArray (text name held : List ℕ) : Type 0 where
+  pub field : HasField text name held
+  pub array : IsSomeArray held
+
 -- a stream's name, in the member of this name, and perhaps its namespace
 pub record IsStreamId (text name_member : List ℕ) (id : StreamId) : Type 0 where
   pub name : HasText text name_member id.name
@@ -52,3 +59,9 @@ pub record HasDescriptor (text : List ℕ) (id : StreamId) : Type 0 where
 pub record NestsWithin (limit : ℕ) (text : List ℕ) : Type 0 where
   pub members : List Member
   pub object : AreMembers limit text members
+
+-- For private clauses: the text is an array with its elements at these places and no others, each where it stands.
+pub record IsCutList (text : List ℕ) (spans : List Span) : Type 0 where
+  pub are : AreElements line_depth text spans
+  pub only : (others : List Span) → AreElements line_depth text others → others ≡ spans
+  pub parts : All (IsElementOf text) spans

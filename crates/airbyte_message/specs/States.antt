@@ -1,7 +1,9 @@
 -- The `state` of a STATE line (Airbyte Protocol, version 0: AirbyteStateMessage).
-use Rattle.std.specs.Prelude.{◌≡◌, ◌⊎◌, ℕ, List, Option, None, Some, codes}
-use Rattle.json_fields.specs.Fields.{HasField, HasOptional, HasOptionalText}
-use Rattle.outside.specs.declared.event.StreamId.{StreamId}
+use Rattle.std.specs.Prelude.{◌≡◌, ◌⊎◌, ℕ, List, [], ◌∷◌, Option, None, Some, codes}
+use Rattle.json_span.specs.Members.{text_at}
+use Rattle.json_span.specs.Elements.{AreElements}
+use Rattle.json_span.specs.declared.Span.{Span}
+use Rattle.json_fields.specs.Fields.{HasField, HasOptional, HasOptionalText, line_depth}
 use Rattle.airbyte_message.specs.Parts.{IsCount, HasDescriptor, NestsWithin}
 use Rattle.airbyte_message.specs.declared.message.StateMsg.{StateMsg}
 use Rattle.airbyte_message.specs.declared.message.StateKind.{StateKind}
@@ -57,10 +59,31 @@ pub record IsStreamState (text : List ℕ) (part : StreamBlob) : Type 0 where
   pub field : HasField text (codes "stream") stream
   pub is : IsStreamBlob stream part
 
+-- the elements of an array at these places are these streams and their blobs, in this order
+abbrev pub AreStreamBlobs : List ℕ → List Span → List StreamBlob → Type 0
+AreStreamBlobs text [] parts = parts ≡ []
+AreStreamBlobs text (span ∷ spans) [] = ⊥
+AreStreamBlobs text (span ∷ spans) (part ∷ parts) = IsStreamBlob (text_at text span) part × AreStreamBlobs text spans parts
+
+-- the `stream_states` of a state of type GLOBAL
+pub record HasStreamBlobs (text : List ℕ) (parts : List StreamBlob) : Type 0 where
+  pub list : List ℕ
+  pub field : HasField text (codes "stream_states") list
+  pub spans : List Span
+  pub elements : AreElements line_depth list spans
+  pub are : AreStreamBlobs list spans parts
+
+-- the `global` of a state of type GLOBAL
+pub record IsGlobalState (text : List ℕ) (blob : Option (List ℕ)) (parts : List StreamBlob) : Type 0 where
+  pub global : List ℕ
+  pub field : HasField text (codes "global") global
+  pub shared : HasOptional global (codes "shared_state") blob
+  pub streams : HasStreamBlobs global parts
+
 -- what a state of this type is of
 abbrev pub IsKind : StateType → List ℕ → StateKind → Type 0
 IsKind types.Stream text (kind.Stream id blob) = IsStreamState text (record { id = id; blob = blob })
-IsKind types.Global text (kind.Global shared streams) = ⊥
+IsKind types.Global text (kind.Global shared streams) = IsGlobalState text shared streams
 IsKind types.Legacy text kind.Legacy = Unit {0}
 IsKind _ text _ = ⊥
 

@@ -3,7 +3,7 @@ ghost use Rattle.std.specs.Prelude.{◌≡◌, IfOk, codes};
 ghost use Rattle.json_fields.specs.Answer.{IsAnswer};
 ghost use Rattle.json_fields.specs.Fields.{HasText, IsCut};
 ghost use Rattle.airbyte_message.specs.Messages.{IsConnection};
-ghost use Rattle.airbyte_message.specs.Words.{connection_text, connections, word_of};
+ghost use Rattle.airbyte_message.specs.Words.{connection_text};
 
 use crate::ConnectionMsg;
 use json_fields::{cut, optional_text, text_field};
@@ -13,7 +13,7 @@ use std::alloc::Global;
 
 // Whether a status of this name is a success.
 fn success_named(text: &str) -> Option<bool>
-    ensures { result ≡ word_of connection_text connections text.now }
+    ensures { IsAnswer (λ success. text.now ≡ connection_text success) result }
 {
     if text == "SUCCEEDED" {
         return Some(true);

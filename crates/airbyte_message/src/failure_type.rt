@@ -1,7 +1,7 @@
 // The types of failures.
 ghost use Rattle.std.specs.Prelude.{◌≡◌};
 ghost use Rattle.json_fields.specs.Answer.{IsAnswer};
-ghost use Rattle.airbyte_message.specs.Words.{failure_text, failures, word_of};
+ghost use Rattle.airbyte_message.specs.Words.{failure_text};
 
 /// Who is to mend a failure.
 #[derive(Clone, Copy, Debug, PartialEq, Eq)]
@@ -30,22 +30,15 @@ impl FailureType {
     pub fn of(text: &str) -> Option<Self>
         ensures { IsAnswer (λ failure. text.now ≡ failure_text failure) result }
     {
-        failure_named(text)
+        if text == "system_error" {
+            return Some(FailureType::SystemError);
+        }
+        if text == "config_error" {
+            return Some(FailureType::ConfigError);
+        }
+        if text == "transient_error" {
+            return Some(FailureType::TransientError);
+        }
+        None
     }
-}
-
-// The type of this name.
-fn failure_named(text: &str) -> Option<FailureType>
-    ensures { result ≡ word_of failure_text failures text.now }
-{
-    if text == "system_error" {
-        return Some(FailureType::SystemError);
-    }
-    if text == "config_error" {
-        return Some(FailureType::ConfigError);
-    }
-    if text == "transient_error" {
-        return Some(FailureType::TransientError);
-    }
-    None
 }

@@ -1,7 +1,7 @@
 // The levels of a log.
 ghost use Rattle.std.specs.Prelude.{◌≡◌};
 ghost use Rattle.json_fields.specs.Answer.{IsAnswer};
-ghost use Rattle.airbyte_message.specs.Words.{level_text, levels, word_of};
+ghost use Rattle.airbyte_message.specs.Words.{level_text};
 
 /// How grave a line of a log is.
 #[derive(Clone, Copy, Debug, PartialEq, Eq)]
@@ -33,31 +33,24 @@ impl Level {
     pub fn of(text: &str) -> Option<Self>
         ensures { IsAnswer (λ level. text.now ≡ level_text level) result }
     {
-        level_named(text)
+        if text == "FATAL" {
+            return Some(Level::Fatal);
+        }
+        if text == "ERROR" {
+            return Some(Level::Error);
+        }
+        if text == "WARN" {
+            return Some(Level::Warn);
+        }
+        if text == "INFO" {
+            return Some(Level::Info);
+        }
+        if text == "DEBUG" {
+            return Some(Level::Debug);
+        }
+        if text == "TRACE" {
+            return Some(Level::Trace);
+        }
+        None
     }
-}
-
-// The level of this name.
-fn level_named(text: &str) -> Option<Level>
-    ensures { result ≡ word_of level_text levels text.now }
-{
-    if text == "FATAL" {
-        return Some(Level::Fatal);
-    }
-    if text == "ERROR" {
-        return Some(Level::Error);
-    }
-    if text == "WARN" {
-        return Some(Level::Warn);
-    }
-    if text == "INFO" {
-        return Some(Level::Info);
-    }
-    if text == "DEBUG" {
-        return Some(Level::Debug);
-    }
-    if text == "TRACE" {
-        return Some(Level::Trace);
-    }
-    None
 }

@@ -14,6 +14,7 @@ mod read;
 mod record_message;
 mod spec_message;
 mod state_message;
+mod stream_blob;
 mod stream_status;
 mod trace_message;
 

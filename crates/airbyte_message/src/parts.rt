@@ -4,10 +4,10 @@ ghost use Rattle.std.specs.Option.{option_copied};
 ghost use Rattle.json_fields.specs.Answer.{IsAnswer};
 ghost use Rattle.json_fields.specs.Fields.{IsCut};
 ghost use Rattle.json_span.specs.Members.{IsValue};
-ghost use Rattle.airbyte_message.specs.Parts.{HasCount, HasDescriptor, HasObject, HasOptionalNumber, IsNumber, IsStreamId};
+ghost use Rattle.airbyte_message.specs.Parts.{HasArray, HasCount, HasDescriptor, HasObject, HasOptionalNumber, IsNumber, IsStreamId};
 
 use json_fields::{cut, field, optional, optional_text, text_field};
-use json_span::{MAX_DEPTH, MemberList, is_object, whole_of};
+use json_span::{MAX_DEPTH, MemberList, is_array, is_object, whole_of};
 use outside::{Bytes, NoMemory, StreamId};
 use std::alloc::Global;
 
@@ -60,6 +60,23 @@ pub fn object_field<'a>(
 {
     match field(alloc, text, members, name)? {
         Some(held) if is_object(held) => Ok(Some(held)),
+        Some(_) => Ok(None),
+        None => Ok(None),
+    }
+}
+
+/// A member that is an array.
+pub fn array_field<'a>(
+    alloc: Global,
+    text: &'a [u8],
+    members: &MemberList,
+    name: &str,
+) -> Result<Option<&'a [u8]>, NoMemory>
+    requires { IsCut text.now members.now }
+    ensures { IfOk result (λ found. IsAnswer (HasArray text.now name.now) (option_copied found)) }
+{
+    match field(alloc, text, members, name)? {
+        Some(held) if is_array(held) => Ok(Some(held)),
         Some(_) => Ok(None),
         None => Ok(None),
     }

@@ -3,7 +3,7 @@ ghost use Rattle.std.specs.Prelude.{◌≡◌, IfOk, codes};
 ghost use Rattle.json_fields.specs.Answer.{IsAnswer};
 ghost use Rattle.json_fields.specs.Fields.{HasText, IsCut};
 ghost use Rattle.airbyte_message.specs.Messages.{IsMessage, IsPayload};
-ghost use Rattle.airbyte_message.specs.Words.{payload_text, type_text, types, word_of};
+ghost use Rattle.airbyte_message.specs.Words.{payload_text, type_text};
 
 use crate::Message;
 use crate::catalog_message::catalog_of;
@@ -52,7 +52,7 @@ impl MessageType {
 
 // The type of this name.
 fn type_named(text: &str) -> Option<MessageType>
-    ensures { result ≡ word_of type_text types text.now }
+    ensures { IsAnswer (λ type. text.now ≡ type_text type) result }
 {
     if text == "RECORD" {
         return Some(MessageType::Rec);

@@ -2,11 +2,11 @@
 ghost use Rattle.std.specs.Prelude.{IfOk};
 ghost use Rattle.json_fields.specs.Answer.{IsAnswer};
 ghost use Rattle.json_fields.specs.Fields.{IsCut};
-ghost use Rattle.airbyte_message.specs.States.{HasStats, HasStateType, IsKind, IsState, IsStateType, IsStats, IsStreamBlob, IsStreamState};
+ghost use Rattle.airbyte_message.specs.States.{HasStats, HasStateType, IsKind, IsState, IsStateType, IsStats};
 
-use crate::parts::{copied, descriptor_of};
+use crate::stream_blob::{global_of, stream_of};
 use crate::{StateKind, StateMsg, StreamBlob};
-use json_fields::{cut, field, optional, optional_text};
+use json_fields::{cut, optional, optional_text};
 use json_span::{MAX_DEPTH, MemberList, whole_of};
 use outside::{Bytes, Name, NoMemory};
 use std::alloc::Global;
@@ -83,38 +83,6 @@ fn source_count_of(
     }
 }
 
-// A stream and its blob.
-fn stream_blob_of(alloc: Global, text: &[u8]) -> Result<Option<StreamBlob>, NoMemory>
-    ensures { IfOk result (IsAnswer (IsStreamBlob text.now)) }
-{
-    let Some(members) = cut(alloc, text, MAX_DEPTH)? else {
-        return Ok(None);
-    };
-    let Some(id) = descriptor_of(alloc, text, &members)? else {
-        return Ok(None);
-    };
-    let blob = optional(alloc, text, &members, "stream_state")?;
-    Ok(Some(StreamBlob {
-        id,
-        blob: copied(alloc, blob)?,
-    }))
-}
-
-// The `stream` of a state of type STREAM.
-fn stream_of(
-    alloc: Global,
-    text: &[u8],
-    members: &MemberList,
-) -> Result<Option<StreamBlob>, NoMemory>
-    requires { IsCut text.now members.now }
-    ensures { IfOk result (IsAnswer (IsStreamState text.now)) }
-{
-    match field(alloc, text, members, "stream")? {
-        Some(stream) => stream_blob_of(alloc, stream),
-        None => Ok(None),
-    }
-}
-
 // What a state of this type is of.
 fn kind_of(
     alloc: Global,
@@ -130,7 +98,7 @@ fn kind_of(
             Some(StreamBlob { id, blob }) => Ok(Some(StateKind::Stream { id, blob })),
             None => Ok(None),
         },
-        StateType::Global => Ok(None),
+        StateType::Global => global_of(alloc, text, members),
         StateType::Legacy => Ok(Some(StateKind::Legacy)),
     }
 }

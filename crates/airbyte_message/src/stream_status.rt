@@ -1,7 +1,7 @@
 // How far a stream is.
 ghost use Rattle.std.specs.Prelude.{◌≡◌};
 ghost use Rattle.json_fields.specs.Answer.{IsAnswer};
-ghost use Rattle.airbyte_message.specs.Words.{status_text, statuses, word_of};
+ghost use Rattle.airbyte_message.specs.Words.{status_text};
 
 /// How far a stream is, as its source tells it.
 #[derive(Clone, Copy, Debug, PartialEq, Eq)]
@@ -29,25 +29,18 @@ impl StreamStatus {
     pub fn of(text: &str) -> Option<Self>
         ensures { IsAnswer (λ status. text.now ≡ status_text status) result }
     {
-        status_named(text)
+        if text == "STARTED" {
+            return Some(StreamStatus::Started);
+        }
+        if text == "RUNNING" {
+            return Some(StreamStatus::Running);
+        }
+        if text == "COMPLETE" {
+            return Some(StreamStatus::Complete);
+        }
+        if text == "INCOMPLETE" {
+            return Some(StreamStatus::Incomplete);
+        }
+        None
     }
-}
-
-// The status of this name.
-fn status_named(text: &str) -> Option<StreamStatus>
-    ensures { result ≡ word_of status_text statuses text.now }
-{
-    if text == "STARTED" {
-        return Some(StreamStatus::Started);
-    }
-    if text == "RUNNING" {
-        return Some(StreamStatus::Running);
-    }
-    if text == "COMPLETE" {
-        return Some(StreamStatus::Complete);
-    }
-    if text == "INCOMPLETE" {
-        return Some(StreamStatus::Incomplete);
-    }
-    None
 }

@@ -4,7 +4,7 @@ ghost use Rattle.std.specs.Option.{option_copied};
 ghost use Rattle.json_fields.specs.Answer.{IsAnswer};
 ghost use Rattle.json_fields.specs.Fields.{HasText, HasOptionalText, IsCut};
 ghost use Rattle.airbyte_message.specs.Traces.{IsTold, IsTrace};
-ghost use Rattle.airbyte_message.specs.Words.{failure_text, status_text, trace_text, traces, word_of};
+ghost use Rattle.airbyte_message.specs.Words.{failure_text, status_text, trace_text};
 
 use crate::parts::{copied, descriptor_of, optional_number};
 use crate::{FailureType, StreamStatus, TraceMsg};
@@ -24,7 +24,7 @@ pub enum TraceType {
 
 // The type of this name.
 fn trace_named(text: &str) -> Option<TraceType>
-    ensures { result ≡ word_of trace_text traces text.now }
+    ensures { IsAnswer (λ type. text.now ≡ trace_text type) result }
 {
     if text == "ERROR" {
         return Some(TraceType::Error);

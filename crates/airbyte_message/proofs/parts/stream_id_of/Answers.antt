@@ -1,7 +1,8 @@
 use Rattle.std.proofs.Common.{codes}
 use Rattle.json_fields.specs.Fields.{HasText, HasOptionalText}
-use Rattle.airbyte_message.proofs.MessageLemmas.{along, stream_id_answer, stream_id_unnamed, stream_id_misplaced}
-use Rattle.airbyte_message.proofs.record_message.stream_id_of.Goals as goal
+use Rattle.airbyte_message.proofs.AnswerLemmas.{along}
+use Rattle.airbyte_message.proofs.PartLemmas.{stream_id_answer, stream_id_unnamed, stream_id_misplaced}
+use Rattle.airbyte_message.proofs.parts.stream_id_of.Goals as goal
 
 pub returns-in_default : goal.returns-in_default
 returns-in_default c =

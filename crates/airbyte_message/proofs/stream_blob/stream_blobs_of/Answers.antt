@@ -1,0 +1,22 @@
+use Rattle.std.proofs.Common.{List, ap, codes, subst, sym}
+use Rattle.std.specs.Option.{option_copied}
+use Rattle.std.proofs.lemmas.Result.{IfOk-weaker}
+use Rattle.json_span.specs.declared.Span.{Span}
+use Rattle.json_fields.specs.Fields.{HasField}
+use Rattle.airbyte_message.specs.Parts.{IsCutList}
+use Rattle.airbyte_message.specs.States.{AreStreamBlobs}
+use Rattle.airbyte_message.proofs.AnswerLemmas.{along}
+use Rattle.airbyte_message.proofs.StateLemmas.{stream_blobs_at, stream_blobs_absent, stream_blobs_uncut, list_uncut}
+use Rattle.airbyte_message.proofs.stream_blob.stream_blobs_of.Goals as goal
+
+pub returns-in_default : goal.returns-in_default
+returns-in_default c = stream_blobs_absent c.args.text.now (along (HasField c.args.text.now (codes "stream_states")) (ap option_copied c.in_default.is) c.in_ok-list.ensures.field)
+
+pub returns-in-Some-2 : goal.returns-in-Some-2
+returns-in-Some-2 c =
+    let field = along (HasField c.args.text.now (codes "stream_states")) (ap option_copied c.in-Some.is) c.in_ok-list.ensures.field in ?
+
+pub returns-in-None : goal.returns-in-None
+returns-in-None c =
+    let field = along (HasField c.args.text.now (codes "stream_states")) (ap option_copied c.in-Some.is) c.in_ok-list.ensures.field in
+    stream_blobs_uncut c.args.text.now c.in-Some.list.now field (list_uncut c.in-Some.list.now c.in_ok-spans.field-0 c.in-None.is c.in_ok-spans.ensures.none)
