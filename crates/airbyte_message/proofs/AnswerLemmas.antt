@@ -1,6 +1,6 @@
 -- Answers from answers, whatever they are of.
 use Rattle.std.proofs.Common.{◌≡◌, ℕ, List, Option, None, Some, refl, sym, ◌∙◌, ap, subst, Bool, true, false, IfSome, IfNone}
-use Rattle.std.specs.Option.{option_map}
+use Rattle.std.specs.Option.{option_map, MatchOption, IsSomeAnd}
 use Rattle.json_span.specs.Members.{AreMembers}
 use Rattle.json_span.specs.declared.Member.{Member}
 use Rattle.json_fields.specs.Answer.{IsAnswer, IsOnly}
@@ -57,6 +57,13 @@ wrapped wrap P Q to back (Some a) only = record {
   is = to a only.is;
   only = λ b q. let r = back b q in r.2 ∙ ap wrap (only.only r.0 r.1);
 }
+
+-- what `map` ensures
+pub mapped : {A B : Type 0} (wrap : A → B) (found : Option A) (result : Option B) → MatchOption found (result ≡ None) (λ a. IsSomeAnd result (λ b. b ≡ wrap a)) → option_map wrap found ≡ result
+mapped wrap None None cases = refl
+mapped wrap None (Some b) cases = sym cases
+mapped wrap (Some a) None cases = absurd cases
+mapped wrap (Some a) (Some b) cases = ap (λ c. Some c) (sym cases)
 
 -- a member that is one of some words
 pub word_text : {A : Type 0} (words : A → List ℕ) (text member name shown : List ℕ) (found : Option A) → IsOnly (HasText text member) name → shown ≡ name → IsAnswer (λ a. shown ≡ words a) found → IsAnswer (λ a. HasText text member (words a)) found

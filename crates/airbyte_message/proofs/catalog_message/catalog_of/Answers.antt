@@ -13,7 +13,7 @@ returns-in_default c = catalog_uncut c.args.text.now (uncut line_depth c.args.te
 pub returns-in-Some-2 : goal.returns-in-Some-2
 returns-in-Some-2 c =
     let text = c.args.text.now in
-    catalog_answer text c.in_ok-copy_of.field-0 (along_only (HasArray text (codes "streams")) (sym c.in_ok-copy_of.ensures) (along (HasArray text (codes "streams")) (ap option_copied c.in-Some-2.is) c.in_ok-list.ensures))
+    catalog_answer text c.in_ok-copy_of-in-Some-2.field-0 (along_only (HasArray text (codes "streams")) (sym c.in_ok-copy_of-in-Some-2.ensures) (along (HasArray text (codes "streams")) (ap option_copied c.in-Some-2.is) c.in_ok-list.ensures))
 
 pub returns : goal.returns
 returns c = catalog_absent c.args.text.now (along (HasArray c.args.text.now (codes "streams")) (ap option_copied c.in-None.is) c.in_ok-list.ensures)

@@ -11,7 +11,7 @@ returns-in_default c = control_uncut c.args.text.now (uncut line_depth c.args.te
 pub returns-in-Some-2 : goal.returns-in-Some-2
 returns-in-Some-2 c =
     let text = c.args.text.now in
-    along_only (IsControl text) (ap (λ (o : List ℕ). control_msg o) (sym c.in_ok-copy_of.ensures)) (control_answer text c.in-Some-2._name (along (HasText text (codes "type")) c.in-Some-2.is c.in_ok-text_field.ensures))
+    along_only (IsControl text) (ap (λ (o : List ℕ). control_msg o) (sym c.in_ok-copy_of-in-Some-2.ensures)) (control_answer text c.in-Some-2._name (along (HasText text (codes "type")) c.in-Some-2.is c.in_ok-_name.ensures))
 
 pub returns : goal.returns
-returns c = control_untyped c.args.text.now (along (HasText c.args.text.now (codes "type")) c.in-None.is c.in_ok-text_field.ensures)
+returns c = control_untyped c.args.text.now (along (HasText c.args.text.now (codes "type")) c.in-None.is c.in_ok-_name.ensures)

@@ -13,7 +13,7 @@ returns-in_default c = spec_uncut c.args.text.now (uncut line_depth c.args.text.
 pub returns-in-Some-2 : goal.returns-in-Some-2
 returns-in-Some-2 c =
     let text = c.args.text.now in
-    spec_answer text c.in_ok-copy_of.field-0 (along_only (HasObject text (codes "connectionSpecification")) (sym c.in_ok-copy_of.ensures) (along (HasObject text (codes "connectionSpecification")) (ap option_copied c.in-Some-2.is) c.in_ok-object.ensures))
+    spec_answer text c.in_ok-copy_of-in-Some-2.field-0 (along_only (HasObject text (codes "connectionSpecification")) (sym c.in_ok-copy_of-in-Some-2.ensures) (along (HasObject text (codes "connectionSpecification")) (ap option_copied c.in-Some-2.is) c.in_ok-object.ensures))
 
 pub returns : goal.returns
 returns c = spec_absent c.args.text.now (along (HasObject c.args.text.now (codes "connectionSpecification")) (ap option_copied c.in-None.is) c.in_ok-object.ensures)

@@ -10,7 +10,9 @@ abbrev no_span : Span
 no_span = record { start = 0; end = 0 }
 
 pub loop-span-preserved : goal.loop-span-preserved
-loop-span-preserved c = ?
+loop-span-preserved c =
+    let lt : c.loop-span.span-index < length c.args.spans.now = c.loop-span-test.true in
+    stream_blobs_more c.args.text.now c.args.spans.now c.loop-span.span-index no_span c.loop-span.parts c.push.new.self c.in-Some.part c.of.result.now lt c.of.ensures c.in_ok-push.ensures.ok (along (IsStreamBlob c.of.result.now) c.in-Some.is c.in_ok-part.ensures) c.loop-span.invariant
 
 pub returns-in_default : goal.returns-in_default
 returns-in_default c =

@@ -1,4 +1,4 @@
-use Rattle.std.proofs.Common.{List, ap, codes, subst, sym}
+use Rattle.std.proofs.Common.{List, Option, IfSome, ap, codes, subst, sym}
 use Rattle.std.specs.Option.{option_copied}
 use Rattle.std.proofs.lemmas.Result.{IfOk-weaker}
 use Rattle.json_span.specs.declared.Span.{Span}
@@ -14,7 +14,10 @@ returns-in_default c = stream_blobs_absent c.args.text.now (along (HasField c.ar
 
 pub returns-in-Some-2 : goal.returns-in-Some-2
 returns-in-Some-2 c =
-    let field = along (HasField c.args.text.now (codes "stream_states")) (ap option_copied c.in-Some.is) c.in_ok-list.ensures.field in ?
+    let field = along (HasField c.args.text.now (codes "stream_states")) (ap option_copied c.in-Some.is) c.in_ok-list.ensures.field in
+    let found = subst (λ (f : Option (List Span)). IfSome f (IsCutList c.in-Some.list.now)) c.in-Some-2.is c.in_ok-spans.ensures.cut in
+    let cut = subst (λ (ss : List Span). IsCutList c.in-Some.list.now ss) (sym c.as_slice.ensures) found in
+    IfOk-weaker c.stream_blobs_at.result _ _ (λ found answer. stream_blobs_at c.args.text.now c.in-Some.list.now c.as_slice.result.now found field cut answer) c.stream_blobs_at.ensures
 
 pub returns-in-None : goal.returns-in-None
 returns-in-None c =

@@ -32,4 +32,5 @@ returns c =
     let text = c.args.text.now in
     let at = option_copied c.args.emitted_at in
     let field = along (HasField text (codes "error")) (ap option_copied c.in-Some.is) c.in_ok-error.ensures.field in
-    along_only (IsTold types.Error text at) (ap (λ (a : Option (List ℕ)). trace.Error c.in-Some-3.text c.in-Some-4.failure a) (sym c.in_ok-copied.ensures)) (error_answer text c.in-Some.error.now c.in-Some-3.text c.in-Some-4.failure at field (along (HasText c.in-Some.error.now (codes "message")) c.in-Some-3.is c.in_ok-text.ensures) (along (HasFailure c.in-Some.error.now) c.in-Some-4.is c.in_ok-failure.ensures))
+    let answer = error_answer text c.in-Some.error.now c.in-Some-3.text c.in-Some-4.failure at field (along (HasText c.in-Some.error.now (codes "message")) c.in-Some-3.is c.in_ok-text.ensures) (along (HasFailure c.in-Some.error.now) c.in-Some-4.is c.in_ok-failure.ensures) in
+    along_only (IsTold types.Error text at) (ap (λ (m : List ℕ). trace.Error m c.in-Some-4.failure c.in_ok-copied.field-0) (sym c.text.view_is)) (along_only (IsTold types.Error text at) (ap (λ (a : Option (List ℕ)). trace.Error c.in-Some-3.text c.in-Some-4.failure a) (sym c.in_ok-copied.ensures)) answer)

@@ -19,5 +19,5 @@ returns-in-Some-3 c =
     let number = along (HasOptionalNumber text (codes "emitted_at")) (ap (option_map option_copied) c.in-Some-3.is) c.in_ok-emitted_at.ensures in
     IfOk-weaker c.told_of.result _ _ (λ found answer. trace_answer text c.in-Some-2.kind (option_copied c.in-Some-3.emitted_at) found (along (IsTypeOf text) c.in-Some-2.is c.in_ok-kind.ensures) number answer) c.told_of.ensures
 
-pub returns-in-None : goal.returns-in-None
-returns-in-None c = trace_no_number c.args.text.now (along (HasOptionalNumber c.args.text.now (codes "emitted_at")) (ap (option_map option_copied) c.in-None.is) c.in_ok-emitted_at.ensures)
+pub returns : goal.returns
+returns c = trace_no_number c.args.text.now (along (HasOptionalNumber c.args.text.now (codes "emitted_at")) (ap (option_map option_copied) c.in-None.is) c.in_ok-emitted_at.ensures)
