@@ -4,3 +4,4 @@ pub mod States
 pub mod Traces
 pub mod Messages
 pub mod Echo
+pub mod Same

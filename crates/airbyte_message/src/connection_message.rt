@@ -29,10 +29,10 @@ fn success_of(alloc: Global, text: &[u8], members: &MemberList) -> Result<Option
     requires { IsCut text.now members.now }
     ensures { IfOk result (IsAnswer (λ success. HasText text.now (codes "status") (connection_text success))) }
 {
-    match text_field(alloc, text, members, "status")? {
-        Some(name) => Ok(success_named(name.as_str())),
-        None => Ok(None),
-    }
+    let Some(name) = text_field(alloc, text, members, "status")? else {
+        return Ok(None);
+    };
+    Ok(success_named(name.as_str()))
 }
 
 /// The status that a payload is.

@@ -12,6 +12,7 @@ mod message;
 mod parts;
 mod read;
 mod record_message;
+mod same;
 mod spec_message;
 mod state_message;
 mod stream_blob;
@@ -26,4 +27,5 @@ pub use message::{
     StateMsg, StreamBlob, StreamBlobList, TraceMsg,
 };
 pub use read::read_message;
+pub use same::same_state;
 pub use stream_status::StreamStatus;

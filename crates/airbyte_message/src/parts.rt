@@ -60,7 +60,7 @@ pub fn object_field<'a>(
 {
     match field(alloc, text, members, name)? {
         Some(held) if is_object(held) => Ok(Some(held)),
-        Some(_) => Ok(None),
+        Some(_no_object) => Ok(None),
         None => Ok(None),
     }
 }
@@ -77,7 +77,7 @@ pub fn array_field<'a>(
 {
     match field(alloc, text, members, name)? {
         Some(held) if is_array(held) => Ok(Some(held)),
-        Some(_) => Ok(None),
+        Some(_no_array) => Ok(None),
         None => Ok(None),
     }
 }
@@ -118,7 +118,7 @@ pub fn optional_number<'a>(
 {
     match optional(alloc, text, members, name)? {
         Some(held) if is_number(held) => Ok(Some(Some(held))),
-        Some(_) => Ok(None),
+        Some(_no_number) => Ok(None),
         None => Ok(Some(None)),
     }
 }

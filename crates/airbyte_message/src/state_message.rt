@@ -1,5 +1,5 @@
 // The payload of a STATE line.
-ghost use Rattle.std.specs.Prelude.{IfOk};
+ghost use Rattle.std.specs.Prelude.{IfOk, Some};
 ghost use Rattle.json_fields.specs.Answer.{IsAnswer};
 ghost use Rattle.json_fields.specs.Fields.{IsCut};
 ghost use Rattle.airbyte_message.specs.States.{HasStats, HasStateType, IsKind, IsState, IsStateType, IsStats};
@@ -22,23 +22,30 @@ pub enum StateType {
     Legacy,
 }
 
-// The type of a state whose `type` is this, or absent.
-fn type_named(name: &Option<Name>) -> Option<StateType>
-    ensures { IsAnswer (IsStateType name.now) result }
+// The type of a state whose `type` is this.
+fn type_named(name: &str) -> Option<StateType>
+    ensures { IsAnswer (IsStateType (Some name.now)) result }
 {
-    let Some(name) = name else {
-        return Some(StateType::Legacy);
-    };
-    if name.as_str() == "STREAM" {
+    if name == "STREAM" {
         return Some(StateType::Stream);
     }
-    if name.as_str() == "GLOBAL" {
+    if name == "GLOBAL" {
         return Some(StateType::Global);
     }
-    if name.as_str() == "LEGACY" {
+    if name == "LEGACY" {
         return Some(StateType::Legacy);
     }
     None
+}
+
+// The type of a state whose `type` is this, or absent.
+fn optional_type(name: &Option<Name>) -> Option<StateType>
+    ensures { IsAnswer (IsStateType name.now) result }
+{
+    match name {
+        Some(name) => type_named(name.as_str()),
+        None => Some(StateType::Legacy),
+    }
 }
 
 // The member `type`.
@@ -47,7 +54,7 @@ fn type_of(alloc: Global, text: &[u8], members: &MemberList) -> Result<Option<St
     ensures { IfOk result (IsAnswer (HasStateType text.now)) }
 {
     match optional_text(alloc, text, members, "type")? {
-        Some(name) => Ok(type_named(&name)),
+        Some(name) => Ok(optional_type(&name)),
         None => Ok(None),
     }
 }
