@@ -1,10 +1,10 @@
 -- Answers from answers, whatever they are of.
-use Rattle.std.proofs.Common.{◌≡◌, ℕ, List, Option, None, Some, refl, sym, ◌∙◌, ap, subst, Bool, true, false, IfSome, IfNone}
+use Rattle.std.proofs.Common.{◌≡◌, ℕ, List, Option, None, Some, refl, sym, ◌∙◌, ap, subst, true, false, IfSome, IfNone}
 use Rattle.std.specs.Option.{option_map, MatchOption, IsSomeAnd}
 use Rattle.json_span.specs.Members.{AreMembers}
 use Rattle.json_span.specs.declared.Member.{Member}
 use Rattle.json_fields.specs.Answer.{IsAnswer, IsOnly}
-use Rattle.json_fields.specs.Fields.{HasText, HasOptionalText, line_depth}
+use Rattle.json_fields.specs.Fields.{HasText, HasOptionalText}
 
 -- a fact about what was found, where it is known what was found
 pub along : {A : Type 0} (P : A → Type 0) {found shown : Option A} → found ≡ shown → IsAnswer P found → IsAnswer P shown

@@ -1,12 +1,9 @@
 -- An echo grows by one member at a time.
-use Rattle.std.proofs.Common.{◌≡◌, ◌⊎◌, inl, inr, ℕ, List, [], ◌∷◌, ◌++◌, Option, None, Some, refl, sym, ◌∙◌, ap, subst, arith, ◌<◌, ◌≤◌, ◌+◌, ◌^◌, length, take, slice_index_or, codes, IfSome}
+use Rattle.std.proofs.Common.{◌≡◌, ◌⊎◌, inl, inr, ℕ, List, [], ◌∷◌, ◌++◌, refl, sym, ◌∙◌, ap, subst, arith, ◌<◌, ◌≤◌, ◌+◌, length, take, slice_index_or, codes}
 use Rattle.std.proofs.lemmas.List.{take_more, flat_map_more}
 use Rattle.json_scalar.specs.Text.{IsString}
-use Rattle.json_span.specs.Members.{AreMembers, IsSomeObject, IsValue, text_at}
-use Rattle.json_span.specs.Elements.{AreElements, IsSomeArray}
+use Rattle.json_span.specs.Members.{AreMembers, text_at}
 use Rattle.json_span.specs.declared.Member.{Member}
-use Rattle.json_span.specs.declared.Span.{Span}
-use Rattle.outside.specs.declared.event.StreamId.{StreamId}
 use Rattle.json_fields.specs.Fields.{IsNamed, line_depth}
 use Rattle.airbyte_message.specs.Parts.{NestsWithin}
 use Rattle.airbyte_message.specs.States.{state_depth}

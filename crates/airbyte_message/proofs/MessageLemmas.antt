@@ -1,13 +1,11 @@
 -- A message from the members of its line.
-use Rattle.std.proofs.Common.{◌≡◌, ◌⊎◌, inl, inr, ℕ, List, [], ◌∷◌, ◌++◌, Option, None, Some, refl, sym, ◌∙◌, ap, subst, arith, ◌<◌, ◌≤◌, ◌+◌, ◌^◌, length, take, slice_index_or, codes, IfSome, IfNone, Bool, true, false, get_or}
-use Rattle.std.specs.Option.{option_copied, option_map}
-use Rattle.json_span.specs.Members.{AreMembers, IsSomeObject, IsValue, text_at}
-use Rattle.json_span.specs.Elements.{AreElements, IsSomeArray}
+use Rattle.std.proofs.Common.{◌≡◌, ℕ, List, Option, None, Some, refl, ◌∙◌, ap, subst, codes, Bool}
+use Rattle.std.specs.Option.{option_map}
+use Rattle.json_span.specs.Members.{AreMembers}
 use Rattle.json_span.specs.declared.Member.{Member}
-use Rattle.json_span.specs.declared.Span.{Span}
 use Rattle.outside.specs.declared.event.StreamId.{StreamId}
 use Rattle.json_fields.specs.Answer.{IsAnswer, IsOnly}
-use Rattle.json_fields.specs.Fields.{IsNamed, HasField, HasOptional, HasText, HasOptionalText, line_depth}
+use Rattle.json_fields.specs.Fields.{HasField, HasOptional, HasText, HasOptionalText, line_depth}
 use Rattle.airbyte_message.specs.Parts.{HasCount, HasObject, HasArray, IsStreamId}
 use Rattle.airbyte_message.specs.Words.{level_text, connection_text, type_text, payload_text}
 use Rattle.airbyte_message.specs.States.{IsState}
@@ -26,7 +24,7 @@ use Rattle.airbyte_message.specs.declared.message.TraceMsg.{TraceMsg}
 use Rattle.airbyte_message.specs.declared.message.ControlMsg.{ControlMsg}
 use Rattle.airbyte_message.specs.declared.read.MessageType.{MessageType}
 use Rattle.airbyte_message.specs.declared.read.MessageType.TheVariants as types
-use Rattle.airbyte_message.proofs.AnswerLemmas.{at, absent, both, wrapped, along_only}
+use Rattle.airbyte_message.proofs.AnswerLemmas.{both, wrapped}
 
 -- a record
 abbrev pub record_msg : StreamId → List ℕ → ℕ → Option (List ℕ) → RecordMsg

@@ -1,20 +1,18 @@
 -- Members of the forms that messages have in common.
-use Rattle.std.proofs.Common.{◌≡◌, ◌⊎◌, inl, inr, ℕ, zero, suc, List, [], ◌∷◌, ◌++◌, Option, None, Some, refl, sym, ◌∙◌, ap, subst, arith, ◌<◌, ◌≤◌, ◌+◌, ◌^◌, length, take, slice_index_or, codes, IfSome, IfNone, Bool, true, false, get_or, if◌then◌else◌, cond, All}
+use Rattle.std.proofs.Common.{◌≡◌, ◌⊎◌, inl, inr, ℕ, suc, List, [], ◌∷◌, ◌++◌, Option, None, Some, refl, sym, ◌∙◌, ap, subst, arith, ◌<◌, ◌+◌, ◌^◌, length, codes, IfSome, IfNone, Bool, true, false, get_or, if◌then◌else◌, cond, All}
 use Rattle.std.specs.Char.{is_ascii_digit}
 use Rattle.std.specs.Str.{bytes_eq}
-use Rattle.std.specs.Option.{option_copied, option_map}
 use Rattle.json_scalar.specs.Number.{IsWhole, Literal, Whole, nought, counted, literal_text, digits_text, whole_digits, fraction_text, exponent_text}
 use Rattle.json_span.specs.Grammar as json
 use Rattle.json_span.specs.Grammar.{Value, value_text}
 use Rattle.json_span.specs.Members.{AreMembers, IsSomeObject, IsMemberOf, IsValue, text_at}
-use Rattle.json_span.specs.Elements.{AreElements, IsSomeArray}
+use Rattle.json_span.specs.Elements.{IsSomeArray}
 use Rattle.json_span.specs.declared.Member.{Member}
-use Rattle.json_span.specs.declared.Span.{Span}
 use Rattle.outside.specs.declared.event.StreamId.{StreamId}
 use Rattle.json_fields.specs.Answer.{IsAnswer, IsOnly}
-use Rattle.json_fields.specs.Fields.{IsNamed, HasField, HasOptional, HasText, HasOptionalText, Holds, HoldsBefore, IsCut, present, line_depth}
+use Rattle.json_fields.specs.Fields.{HasField, HasOptional, HasText, HasOptionalText, Holds, HoldsBefore, IsCut, present, line_depth}
 use Rattle.airbyte_message.specs.Parts.{IsCount, HasCount, HasObject, HasArray, IsNumber, IsOptionalNumber, HasOptionalNumber, IsStreamId, HasDescriptor}
-use Rattle.airbyte_message.proofs.AnswerLemmas.{at, absent, None-Some, Some-injective}
+use Rattle.airbyte_message.proofs.AnswerLemmas.{at, None-Some, Some-injective}
 
 -- what `whole_of` ensures is an answer
 pub count_answer : (held : List ℕ) (found : Option ℕ) → IfSome found (IsWhole held) → IfSome found (λ n. n < 2 ^ 63) → IfSome found (λ n. (m : ℕ) → IsWhole held m → m ≡ n) → IfNone found ((n : ℕ) → n < 2 ^ 63 → ¬ IsWhole held n) → IsAnswer (IsCount held) found

@@ -1,6 +1,6 @@
 -- Two lists are the same, element by element.
-use Rattle.std.proofs.Common.{◌≡◌, ◌↔◌, ℕ, ◌+◌, ◌<◌, List, ◌∷◌, [], ◌++◌, length, take, map, get_or, sym, ◌∙◌, ap, false, IsTrue}
-use Rattle.std.proofs.lemmas.List.{map_more, get_or-map, length-map}
+use Rattle.std.proofs.Common.{◌≡◌, ◌↔◌, ℕ, ◌<◌, List, length, map, get_or, sym, ◌∙◌, ap, false, IsTrue}
+use Rattle.std.proofs.lemmas.List.{get_or-map}
 use Rattle.airbyte_message.proofs.AnswerLemmas.{true_false}
 
 -- a test that fails where the fact does not hold

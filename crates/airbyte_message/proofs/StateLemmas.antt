@@ -1,14 +1,14 @@
 -- A state from its members.
-use Rattle.std.proofs.Common.{◌≡◌, ◌⊎◌, inl, inr, ℕ, zero, suc, List, [], ◌∷◌, ◌++◌, Option, None, Some, refl, sym, ◌∙◌, ap, subst, arith, ◌<◌, ◌≤◌, ◌+◌, ◌^◌, length, take, slice_index_or, codes, IfSome, IfNone, Bool, true, false, get_or}
-use Rattle.std.specs.Option.{option_copied, option_map}
-use Rattle.json_span.specs.Members.{AreMembers, IsSomeObject, IsValue, text_at}
-use Rattle.json_span.specs.Elements.{AreElements, IsSomeArray}
+use Rattle.std.proofs.Common.{◌≡◌, ℕ, zero, suc, List, [], ◌∷◌, ◌++◌, Option, None, Some, refl, sym, ◌∙◌, ap, subst, arith, ◌<◌, ◌+◌, length, take, slice_index_or, codes, IfNone}
+use Rattle.std.specs.Option.{option_map}
+use Rattle.json_span.specs.Members.{AreMembers, text_at}
+use Rattle.json_span.specs.Elements.{AreElements}
 use Rattle.json_span.specs.declared.Member.{Member}
 use Rattle.json_span.specs.declared.Span.{Span}
 use Rattle.outside.specs.declared.event.StreamId.{StreamId}
 use Rattle.json_fields.specs.Answer.{IsAnswer, IsOnly}
-use Rattle.json_fields.specs.Fields.{IsNamed, HasField, HasOptional, HasText, HasOptionalText, line_depth}
-use Rattle.airbyte_message.specs.Parts.{IsCount, HasDescriptor, IsCutList, NestsWithin}
+use Rattle.json_fields.specs.Fields.{HasField, HasOptional, HasOptionalText, line_depth}
+use Rattle.airbyte_message.specs.Parts.{IsCount, HasDescriptor, IsCutList}
 use Rattle.airbyte_message.specs.States.{IsOptionalCount, IsStats, AreOptionalStats, HasStats, IsStateType, HasStateType, IsStreamBlob, IsStreamState, AreStreamBlobs, HasStreamBlobs, IsGlobalState, IsKind, IsState, state_depth}
 use Rattle.airbyte_message.specs.declared.message.StateMsg.{StateMsg}
 use Rattle.airbyte_message.specs.declared.message.StateKind.{StateKind}
@@ -16,8 +16,8 @@ use Rattle.airbyte_message.specs.declared.message.StateKind.TheVariants as kind
 use Rattle.airbyte_message.specs.declared.message.StreamBlob.{StreamBlob}
 use Rattle.airbyte_message.specs.declared.state_message.StateType.{StateType}
 use Rattle.airbyte_message.specs.declared.state_message.StateType.TheVariants as types
-use Rattle.std.proofs.lemmas.List.{take_more, take_all}
-use Rattle.airbyte_message.proofs.AnswerLemmas.{at, absent, both, wrapped, along_only}
+use Rattle.std.proofs.lemmas.List.{take_more}
+use Rattle.airbyte_message.proofs.AnswerLemmas.{at, both, wrapped}
 
 -- counts that a state may tell
 pub stats_uncut : (text : List ℕ) → ((members : List Member) → ¬ AreMembers line_depth text members) → IsAnswer (IsStats text) None

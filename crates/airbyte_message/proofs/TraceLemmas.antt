@@ -1,13 +1,11 @@
 -- A trace from its members.
-use Rattle.std.proofs.Common.{◌≡◌, ◌⊎◌, inl, inr, ℕ, List, [], ◌∷◌, ◌++◌, Option, None, Some, refl, sym, ◌∙◌, ap, subst, arith, ◌<◌, ◌≤◌, ◌+◌, ◌^◌, length, take, slice_index_or, codes, IfSome, IfNone, Bool, true, false, get_or}
-use Rattle.std.specs.Option.{option_copied, option_map}
-use Rattle.json_span.specs.Members.{AreMembers, IsSomeObject, IsValue, text_at}
-use Rattle.json_span.specs.Elements.{AreElements, IsSomeArray}
+use Rattle.std.proofs.Common.{◌≡◌, ℕ, List, Option, None, Some, refl, ◌∙◌, ap, subst, codes}
+use Rattle.std.specs.Option.{option_map}
+use Rattle.json_span.specs.Members.{AreMembers}
 use Rattle.json_span.specs.declared.Member.{Member}
-use Rattle.json_span.specs.declared.Span.{Span}
 use Rattle.outside.specs.declared.event.StreamId.{StreamId}
 use Rattle.json_fields.specs.Answer.{IsAnswer, IsOnly}
-use Rattle.json_fields.specs.Fields.{IsNamed, HasField, HasOptional, HasText, HasOptionalText, line_depth}
+use Rattle.json_fields.specs.Fields.{HasField, HasText, HasOptionalText, line_depth}
 use Rattle.airbyte_message.specs.Parts.{HasOptionalNumber, HasDescriptor}
 use Rattle.airbyte_message.specs.Words.{trace_text, failure_text, status_text}
 use Rattle.airbyte_message.specs.Traces.{HasError, HasStatus, IsTold, IsTrace}
@@ -17,7 +15,7 @@ use Rattle.airbyte_message.specs.declared.message.TraceMsg.{TraceMsg}
 use Rattle.airbyte_message.specs.declared.message.TraceMsg.TheVariants as trace
 use Rattle.airbyte_message.specs.declared.trace_message.TraceType.{TraceType}
 use Rattle.airbyte_message.specs.declared.trace_message.TraceType.TheVariants as types
-use Rattle.airbyte_message.proofs.AnswerLemmas.{at, absent, both, wrapped, along_only}
+use Rattle.airbyte_message.proofs.AnswerLemmas.{at}
 
 -- an error
 error_shown : (text : List ℕ) (at : Option (List ℕ)) (content : TraceMsg) → IsTold types.Error text at content → (meaning : List ℕ) × (failure : Option FailureType) × HasError text meaning failure × (content ≡ trace.Error meaning failure at)

@@ -1,6 +1,6 @@
 -- Which line is which message (Airbyte Protocol, version 0), as a table over the members of objects. A member that
 -- the table does not name is not read.
-use Rattle.std.specs.Prelude.{◌≡◌, ℕ, List, Option, None, Some, codes}
+use Rattle.std.specs.Prelude.{◌≡◌, ℕ, List, codes}
 use Rattle.json_fields.specs.Fields.{HasField, HasOptional, HasText, HasOptionalText}
 use Rattle.airbyte_message.specs.Parts.{HasArray, HasCount, HasObject, IsStreamId}
 use Rattle.airbyte_message.specs.Words.{level_text, connection_text, type_text, payload_text}

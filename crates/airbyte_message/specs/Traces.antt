@@ -1,5 +1,5 @@
 -- The `trace` of a TRACE line (Airbyte Protocol, version 0: AirbyteTraceMessage).
-use Rattle.std.specs.Prelude.{◌≡◌, ℕ, List, Option, None, Some, option_map, codes}
+use Rattle.std.specs.Prelude.{◌≡◌, ℕ, List, Option, option_map, codes}
 use Rattle.json_fields.specs.Fields.{HasField, HasText, HasOptionalText}
 use Rattle.outside.specs.declared.event.StreamId.{StreamId}
 use Rattle.airbyte_message.specs.Parts.{HasOptionalNumber, HasDescriptor}

@@ -1,4 +1,4 @@
-use Rattle.std.proofs.Common.{List, ℕ, ap, codes, subst}
+use Rattle.std.proofs.Common.{List, ℕ, ap, subst}
 use Rattle.std.specs.Option.{option_copied}
 use Rattle.std.proofs.lemmas.Result.{IfOk-weaker}
 use Rattle.json_fields.specs.Fields.{HasField, line_depth}

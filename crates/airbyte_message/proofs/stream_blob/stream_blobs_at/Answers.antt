@@ -1,4 +1,4 @@
-use Rattle.std.proofs.Common.{◌≡◌, ◌<◌, ◌++◌, List, [], ◌∷◌, length, take, subst}
+use Rattle.std.proofs.Common.{◌≡◌, ◌<◌, List, length, take, subst}
 use Rattle.std.proofs.lemmas.List.{take_all}
 use Rattle.json_span.specs.declared.Span.{Span}
 use Rattle.airbyte_message.specs.States.{IsStreamBlob}

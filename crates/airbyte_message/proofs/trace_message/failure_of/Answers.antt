@@ -1,4 +1,4 @@
-use Rattle.std.proofs.Common.{◌≡◌, Option, List, ℕ, ap, codes, sym, ◌∙◌, Some, None}
+use Rattle.std.proofs.Common.{◌≡◌, Option, List, ℕ, ap, codes, ◌∙◌, Some, None}
 use Rattle.json_fields.specs.Fields.{HasOptionalText}
 use Rattle.airbyte_message.specs.Words.{failure_text}
 use Rattle.airbyte_message.specs.declared.failure_type.FailureType.{FailureType}

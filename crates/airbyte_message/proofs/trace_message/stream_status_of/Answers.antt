@@ -1,4 +1,4 @@
-use Rattle.std.proofs.Common.{Option, List, ℕ, ap, sym, ◌∙◌, codes}
+use Rattle.std.proofs.Common.{Option, List, ℕ, ap, sym, codes}
 use Rattle.std.specs.Option.{option_copied}
 use Rattle.json_fields.specs.Fields.{HasField, line_depth}
 use Rattle.airbyte_message.specs.Parts.{HasDescriptor}

@@ -1,4 +1,4 @@
-use Rattle.std.proofs.Common.{Option, List, ℕ, ap, sym, ◌∙◌, codes}
+use Rattle.std.proofs.Common.{ap, codes}
 use Rattle.std.specs.Option.{option_copied, option_map}
 use Rattle.std.proofs.lemmas.Result.{IfOk-weaker}
 use Rattle.json_fields.specs.Fields.{line_depth}
