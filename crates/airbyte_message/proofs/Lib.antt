@@ -1,1 +1,7 @@
+pub mod AnswerLemmas
+pub mod EchoLemmas
 pub mod MessageLemmas
+pub mod PartLemmas
+pub mod SameLemmas
+pub mod StateLemmas
+pub mod TraceLemmas

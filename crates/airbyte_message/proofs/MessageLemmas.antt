@@ -1,71 +1,30 @@
--- Answers from answers: a message has one from those of its members, and an echo grows by one member at a time.
-use Rattle.std.proofs.Common.{◌≡◌, ◌⊎◌, inl, inr, ℕ, List, [], ◌∷◌, ◌++◌, Option, None, Some, refl, sym, ◌∙◌, ap, subst, arith, ◌<◌, ◌≤◌, ◌+◌, ◌^◌, length, take, slice_index_or, codes, IfSome, IfNone, IfOk, Result, Ok, Bool, true, false, bytes_eq}
-use Rattle.std.proofs.lemmas.List.{take_more, flat_map_more}
-use Rattle.std.proofs.lemmas.Slice.Eq.{bytes_eq-Decides}
-use Rattle.outside.specs.declared.memory.NoMemory.{NoMemory}
-use Rattle.json_scalar.specs.Number.{IsWhole}
-use Rattle.json_scalar.specs.Text.{IsString}
-use Rattle.json_span.specs.Members.{AreMembers, IsSomeObject, text_at}
+-- A message from the members of its line.
+use Rattle.std.proofs.Common.{◌≡◌, ℕ, List, Option, None, Some, refl, ◌∙◌, ap, subst, codes, Bool}
+use Rattle.std.specs.Option.{option_map}
+use Rattle.json_span.specs.Members.{AreMembers}
 use Rattle.json_span.specs.declared.Member.{Member}
 use Rattle.outside.specs.declared.event.StreamId.{StreamId}
 use Rattle.json_fields.specs.Answer.{IsAnswer, IsOnly}
-use Rattle.json_fields.specs.Fields.{IsNamed, HasField, HasOptional, HasText, HasOptionalText, line_depth}
-use Rattle.airbyte_message.specs.Messages.{IsCount, HasCount, HasObject, IsStreamId, IsRecord, IsOptionalCount, IsStats, AreOptionalStats, HasStats, IsStreamState, IsKind, NestsWithin, IsState, IsRecordLine, IsStateLine, IsMessage, state_depth}
-use Rattle.airbyte_message.specs.Echo.{Without, PushesKept, member_text}
+use Rattle.json_fields.specs.Fields.{HasField, HasOptional, HasText, HasOptionalText, line_depth}
+use Rattle.airbyte_message.specs.Parts.{HasCount, HasObject, HasArray, IsStreamId}
+use Rattle.airbyte_message.specs.Words.{level_text, connection_text, type_text, payload_text}
+use Rattle.airbyte_message.specs.States.{IsState}
+use Rattle.airbyte_message.specs.Traces.{IsTrace}
+use Rattle.airbyte_message.specs.Messages.{IsRecord, IsLog, IsSpec, IsConnection, IsCatalog, IsControl, IsPayload, IsMessage}
+use Rattle.airbyte_message.specs.declared.level.Level.{Level}
 use Rattle.airbyte_message.specs.declared.message.Message.{Message}
 use Rattle.airbyte_message.specs.declared.message.Message.TheVariants as message
 use Rattle.airbyte_message.specs.declared.message.RecordMsg.{RecordMsg}
 use Rattle.airbyte_message.specs.declared.message.StateMsg.{StateMsg}
-use Rattle.airbyte_message.specs.declared.message.StateKind.{StateKind}
-use Rattle.airbyte_message.specs.declared.message.StateKind.TheVariants as kind
-
--- what `whole_of` ensures is an answer
-pub count_answer : (held : List ℕ) (found : Option ℕ) → IfSome found (IsWhole held) → IfSome found (λ n. n < 2 ^ 63) → IfSome found (λ n. (m : ℕ) → IsWhole held m → m ≡ n) → IfNone found ((n : ℕ) → n < 2 ^ 63 → ¬ IsWhole held n) → IsAnswer (IsCount held) found
-count_answer held None whole small only none = λ count is. none count is.small is.whole
-count_answer held (Some n) whole small only none = record {
-  is = record { whole = whole; small = small };
-  only = λ other is. only other is.whole;
-}
-
--- a count in a member
-pub has_count : (text name held : List ℕ) (found : Option ℕ) → IsOnly (HasField text name) held → IsAnswer (IsCount held) found → IsAnswer (HasCount text name) found
-has_count text name held None field count = λ n has. count n (subst (λ (h : List ℕ). IsCount h n) (field.only has.held has.field) has.is)
-has_count text name held (Some n) field count = record {
-  is = record { held = held; field = field.is; is = count.is };
-  only = λ other has. count.only other (subst (λ (h : List ℕ). IsCount h other) (field.only has.held has.field) has.is);
-}
-
-pub count_absent : (text name : List ℕ) → IsAnswer (HasField text name) None → IsAnswer (HasCount text name) None
-count_absent text name field = λ n has. field has.held has.field
-
--- an object in a member
-pub object_yes : (text name held : List ℕ) → IsOnly (HasField text name) held → IsSomeObject held → IsOnly (HasObject text name) held
-object_yes text name held field object = record {
-  is = record { field = field.is; object = object };
-  only = λ other has. field.only other has.field;
-}
-
-pub object_no : (text name held : List ℕ) → IsOnly (HasField text name) held → ¬ IsSomeObject held → IsAnswer (HasObject text name) None
-object_no text name held field none = λ other has. none (subst IsSomeObject (field.only other has.field) has.object)
-
-pub object_absent : (text name : List ℕ) → IsAnswer (HasField text name) None → IsAnswer (HasObject text name) None
-object_absent text name field = λ other has. field other has.field
-
--- a stream
-abbrev pub stream_id : List ℕ → Option (List ℕ) → StreamId
-stream_id name namespace = record { name = name; namespace = namespace }
-
-pub stream_id_answer : (text member name : List ℕ) (namespace : Option (List ℕ)) → IsOnly (HasText text member) name → IsOnly (HasOptionalText text (codes "namespace")) namespace → IsOnly (IsStreamId text member) (stream_id name namespace)
-stream_id_answer text member name namespace named spaced = record {
-  is = record { name = named.is; namespace = spaced.is };
-  only = λ other is. ap (λ (n : List ℕ). stream_id n other.namespace) (named.only other.name is.name) ∙ ap (λ (n : Option (List ℕ)). stream_id name n) (spaced.only other.namespace is.namespace);
-}
-
-pub stream_id_unnamed : (text member : List ℕ) → IsAnswer (HasText text member) None → IsAnswer (IsStreamId text member) None
-stream_id_unnamed text member named = λ id is. named id.name is.name
-
-pub stream_id_misplaced : (text member : List ℕ) → IsAnswer (HasOptionalText text (codes "namespace")) None → IsAnswer (IsStreamId text member) None
-stream_id_misplaced text member spaced = λ id is. spaced id.namespace is.namespace
+use Rattle.airbyte_message.specs.declared.message.LogMsg.{LogMsg}
+use Rattle.airbyte_message.specs.declared.message.SpecMsg.{SpecMsg}
+use Rattle.airbyte_message.specs.declared.message.ConnectionMsg.{ConnectionMsg}
+use Rattle.airbyte_message.specs.declared.message.CatalogMsg.{CatalogMsg}
+use Rattle.airbyte_message.specs.declared.message.TraceMsg.{TraceMsg}
+use Rattle.airbyte_message.specs.declared.message.ControlMsg.{ControlMsg}
+use Rattle.airbyte_message.specs.declared.read.MessageType.{MessageType}
+use Rattle.airbyte_message.specs.declared.read.MessageType.TheVariants as types
+use Rattle.airbyte_message.proofs.AnswerLemmas.{both, wrapped}
 
 -- a record
 abbrev pub record_msg : StreamId → List ℕ → ℕ → Option (List ℕ) → RecordMsg
@@ -92,245 +51,171 @@ record_no_body text none = λ content is. none content.body is.body
 pub record_no_time : (text : List ℕ) → IsAnswer (HasCount text (codes "emitted_at")) None → IsAnswer (IsRecord text) None
 record_no_time text none = λ content is. none content.emitted_at is.emitted_at
 
--- counts that a state may tell
-pub stats_uncut : (text : List ℕ) → ((members : List Member) → ¬ AreMembers line_depth text members) → IsAnswer (IsStats text) None
-stats_uncut text none = λ count is. none is.optional.members is.optional.object
+-- a line of a log
+abbrev pub log_msg : Level → List ℕ → LogMsg
+log_msg level text = record { level = level; text = text }
 
-optional_count_absent : (held : Option (List ℕ)) (count : Option ℕ) → held ≡ None → IsOptionalCount held count → count ≡ None
-optional_count_absent None count e is = is
-optional_count_absent (Some held) count e is = absurd (cc)
+abbrev pub IsLevelOf : List ℕ → Level → Type 0
+IsLevelOf text level = HasText text (codes "level") (level_text level)
 
-optional_count_told : (held : List ℕ) (other : Option (List ℕ)) (count : Option ℕ) → other ≡ Some held → IsOptionalCount other count → IsOptionalCount (Some held) count
-optional_count_told held other count e is = subst (λ (h : Option (List ℕ)). IsOptionalCount h count) e is
+pub log_answer : (text : List ℕ) (level : Level) (meaning : List ℕ) → IsOnly (IsLevelOf text) level → IsOnly (HasText text (codes "message")) meaning → IsOnly (IsLog text) (log_msg level meaning)
+log_answer text = both (IsLevelOf text) (HasText text (codes "message")) (IsLog text) log_msg (λ level meaning l m. record { level = l; message = m }) (λ content is. (content.level, content.text, is.level, is.message, refl))
 
-optional_count_only : (held : List ℕ) (n : ℕ) (count : Option ℕ) → IsOnly (IsCount held) n → IsOptionalCount (Some held) count → count ≡ Some n
-optional_count_only held n None only is = absurd is
-optional_count_only held n (Some m) only is = ap (λ (k : ℕ). Some k) (only.only m is)
+pub log_uncut : (text : List ℕ) → ((members : List Member) → ¬ AreMembers line_depth text members) → IsAnswer (IsLog text) None
+log_uncut text none = λ content is. none is.message.field.members is.message.field.object
 
-optional_count_none : (held : List ℕ) (count : Option ℕ) → IsAnswer (IsCount held) None → IsOptionalCount (Some held) count → ⊥
-optional_count_none held None none is = is
-optional_count_none held (Some m) none is = none m is
+pub log_no_level : (text : List ℕ) → IsAnswer (IsLevelOf text) None → IsAnswer (IsLog text) None
+log_no_level text none = λ content is. none content.level is.level
 
-pub stats_absent : (text : List ℕ) → IsOnly (HasOptional text (codes "recordCount")) None → IsOnly (IsStats text) None
-stats_absent text optional = record {
-  is = record { held = None; optional = optional.is; is = refl };
-  only = λ other is. optional_count_absent is.held other (optional.only is.held is.optional) is.is;
+pub log_no_message : (text : List ℕ) → IsAnswer (HasText text (codes "message")) None → IsAnswer (IsLog text) None
+log_no_message text none = λ content is. none content.text is.message
+
+-- a specification
+abbrev pub spec_msg : List ℕ → SpecMsg
+spec_msg specification = record { specification = specification }
+
+pub spec_answer : (text held : List ℕ) → IsOnly (HasObject text (codes "connectionSpecification")) held → IsOnly (IsSpec text) (spec_msg held)
+spec_answer text held only = record {
+  is = record { specification = only.is };
+  only = λ content is. ap (λ (h : List ℕ). spec_msg h) (only.only content.specification is.specification);
 }
 
-pub stats_told : (text held : List ℕ) (n : ℕ) → IsOnly (HasOptional text (codes "recordCount")) (Some held) → IsOnly (IsCount held) n → IsOnly (IsStats text) (Some n)
-stats_told text held n optional count = record {
-  is = record { held = Some held; optional = optional.is; is = count.is };
-  only = λ other is. optional_count_only held n other count (optional_count_told held is.held other (optional.only is.held is.optional) is.is);
+pub spec_uncut : (text : List ℕ) → ((members : List Member) → ¬ AreMembers line_depth text members) → IsAnswer (IsSpec text) None
+spec_uncut text none = λ content is. none is.specification.field.members is.specification.field.object
+
+pub spec_absent : (text : List ℕ) → IsAnswer (HasObject text (codes "connectionSpecification")) None → IsAnswer (IsSpec text) None
+spec_absent text none = λ content is. none content.specification is.specification
+
+-- a connection's status
+abbrev pub connection_msg : Bool → Option (List ℕ) → ConnectionMsg
+connection_msg succeeded text = record { succeeded = succeeded; text = text }
+
+abbrev pub IsSuccessOf : List ℕ → Bool → Type 0
+IsSuccessOf text success = HasText text (codes "status") (connection_text success)
+
+pub connection_answer : (text : List ℕ) (succeeded : Bool) (meaning : Option (List ℕ)) → IsOnly (IsSuccessOf text) succeeded → IsOnly (HasOptionalText text (codes "message")) meaning → IsOnly (IsConnection text) (connection_msg succeeded meaning)
+connection_answer text = both (IsSuccessOf text) (HasOptionalText text (codes "message")) (IsConnection text) connection_msg (λ success meaning s m. record { status = s; message = m }) (λ content is. (content.succeeded, content.text, is.status, is.message, refl))
+
+pub connection_uncut : (text : List ℕ) → ((members : List Member) → ¬ AreMembers line_depth text members) → IsAnswer (IsConnection text) None
+connection_uncut text none = λ content is. none is.status.field.members is.status.field.object
+
+pub connection_no_status : (text : List ℕ) → IsAnswer (IsSuccessOf text) None → IsAnswer (IsConnection text) None
+connection_no_status text none = λ content is. none content.succeeded is.status
+
+pub connection_no_message : (text : List ℕ) → IsAnswer (HasOptionalText text (codes "message")) None → IsAnswer (IsConnection text) None
+connection_no_message text none = λ content is. none content.text is.message
+
+-- a catalog
+abbrev pub catalog_msg : List ℕ → CatalogMsg
+catalog_msg streams = record { streams = streams }
+
+pub catalog_answer : (text held : List ℕ) → IsOnly (HasArray text (codes "streams")) held → IsOnly (IsCatalog text) (catalog_msg held)
+catalog_answer text held only = record {
+  is = record { streams = only.is };
+  only = λ content is. ap (λ (h : List ℕ). catalog_msg h) (only.only content.streams is.streams);
 }
 
-pub stats_uncounted : (text held : List ℕ) → IsOnly (HasOptional text (codes "recordCount")) (Some held) → IsAnswer (IsCount held) None → IsAnswer (IsStats text) None
-stats_uncounted text held optional none = λ other is. optional_count_none held other none (optional_count_told held is.held other (optional.only is.held is.optional) is.is)
+pub catalog_uncut : (text : List ℕ) → ((members : List Member) → ¬ AreMembers line_depth text members) → IsAnswer (IsCatalog text) None
+catalog_uncut text none = λ content is. none is.streams.field.members is.streams.field.object
 
-optional_stats_absent : (held : Option (List ℕ)) (count : Option ℕ) → held ≡ None → AreOptionalStats held count → count ≡ None
-optional_stats_absent None count e is = is
-optional_stats_absent (Some held) count e is = absurd (cc)
+pub catalog_absent : (text : List ℕ) → IsAnswer (HasArray text (codes "streams")) None → IsAnswer (IsCatalog text) None
+catalog_absent text none = λ content is. none content.streams is.streams
 
-pub has_stats_absent : (text : List ℕ) → IsOnly (HasOptional text (codes "sourceStats")) None → IsOnly (HasStats text) None
-has_stats_absent text optional = record {
-  is = record { held = None; optional = optional.is; stats = refl };
-  only = λ other is. optional_stats_absent is.held other (optional.only is.held is.optional) is.stats;
+-- a control message
+abbrev pub control_msg : List ℕ → ControlMsg
+control_msg object = record { object = object }
+
+pub control_answer : (text name : List ℕ) → IsOnly (HasText text (codes "type")) name → IsOnly (IsControl text) (control_msg text)
+control_answer text name typed = record {
+  is = record { object = refl; name = name; type = typed.is };
+  only = λ content is. ap (λ (o : List ℕ). control_msg o) is.object;
 }
 
-pub has_stats : (text stats : List ℕ) (found : Option (Option ℕ)) → IsOnly (HasOptional text (codes "sourceStats")) (Some stats) → IsAnswer (IsStats stats) found → IsAnswer (HasStats text) found
-has_stats text stats None optional none = λ other is. none other (subst (λ (h : Option (List ℕ)). AreOptionalStats h other) (optional.only is.held is.optional) is.stats)
-has_stats text stats (Some count) optional only = record {
-  is = record { held = Some stats; optional = optional.is; stats = only.is };
-  only = λ other is. only.only other (subst (λ (h : Option (List ℕ)). AreOptionalStats h other) (optional.only is.held is.optional) is.stats);
-}
+pub control_uncut : (text : List ℕ) → ((members : List Member) → ¬ AreMembers line_depth text members) → IsAnswer (IsControl text) None
+control_uncut text none = λ content is. none is.type.field.members is.type.field.object
 
--- the kind of a state
-kind_only : (text descriptor : List ℕ) (id : StreamId) (blob : Option (List ℕ)) (other : StateKind) → IsOnly (HasField text (codes "stream_descriptor")) descriptor → IsOnly (IsStreamId descriptor (codes "name")) id → IsOnly (HasOptional text (codes "stream_state")) blob → IsKind text other → other ≡ kind.Stream id blob
-kind_only text descriptor id blob (kind.Stream other_id other_blob) field stream state is =
-    let e : other_id ≡ id = stream.only other_id (subst (λ (d : List ℕ). IsStreamId d (codes "name") other_id) (field.only is.descriptor is.field) is.stream) in
-    let f : other_blob ≡ blob = state.only other_blob is.state in
-    ap (λ (i : StreamId). kind.Stream i other_blob) e ∙ ap (λ (b : Option (List ℕ)). kind.Stream id b) f
+pub control_untyped : (text : List ℕ) → IsAnswer (HasText text (codes "type")) None → IsAnswer (IsControl text) None
+control_untyped text none = λ content is. none is.name is.type
 
-pub kind_answer : (text descriptor : List ℕ) (id : StreamId) (blob : Option (List ℕ)) → IsOnly (HasField text (codes "stream_descriptor")) descriptor → IsOnly (IsStreamId descriptor (codes "name")) id → IsOnly (HasOptional text (codes "stream_state")) blob → IsOnly (IsKind text) (kind.Stream id blob)
-kind_answer text descriptor id blob field stream state = record {
-  is = record { descriptor = descriptor; field = field.is; stream = stream.is; state = state.is };
-  only = λ other is. kind_only text descriptor id blob other field stream state is;
-}
+record_shown : (text : List ℕ) (m : Message) → IsPayload types.Rec text m → (content : RecordMsg) × IsRecord text content × (m ≡ message.Rec content)
+record_shown text (message.Rec content) is = (content, is, refl)
+record_shown text _ is = absurd is
 
-kind_none : (text : List ℕ) (other : StateKind) → ((id : StreamId) (blob : Option (List ℕ)) → ¬ IsStreamState text id blob) → IsKind text other → ⊥
-kind_none text (kind.Stream id blob) none is = none id blob is
+pub record_payload : (text : List ℕ) (found : Option RecordMsg) → IsAnswer (IsRecord text) found → IsAnswer (IsPayload types.Rec text) (option_map (λ content. message.Rec content) found)
+record_payload text = wrapped (λ content. message.Rec content) (IsRecord text) (IsPayload types.Rec text) (λ content is. is) (record_shown text)
 
-pub kind_uncut : (text : List ℕ) → ((members : List Member) → ¬ AreMembers line_depth text members) → IsAnswer (IsKind text) None
-kind_uncut text none = λ other is. kind_none text other (λ id blob stream. none stream.field.members stream.field.object) is
+state_shown : (text : List ℕ) (m : Message) → IsPayload types.State text m → (content : StateMsg) × IsState text content × (m ≡ message.State content)
+state_shown text (message.State content) is = (content, is, refl)
+state_shown text _ is = absurd is
 
-pub kind_no_descriptor : (text : List ℕ) → IsAnswer (HasField text (codes "stream_descriptor")) None → IsAnswer (IsKind text) None
-kind_no_descriptor text none = λ other is. kind_none text other (λ id blob stream. none stream.descriptor stream.field) is
+pub state_payload : (text : List ℕ) (found : Option StateMsg) → IsAnswer (IsState text) found → IsAnswer (IsPayload types.State text) (option_map (λ content. message.State content) found)
+state_payload text = wrapped (λ content. message.State content) (IsState text) (IsPayload types.State text) (λ content is. is) (state_shown text)
 
-pub kind_descriptor_uncut : (text descriptor : List ℕ) → IsOnly (HasField text (codes "stream_descriptor")) descriptor → ((members : List Member) → ¬ AreMembers line_depth descriptor members) → IsAnswer (IsKind text) None
-kind_descriptor_uncut text descriptor field none = λ other is. kind_none text other (λ id blob stream.
-    let moved : IsStreamId descriptor (codes "name") id = subst (λ (d : List ℕ). IsStreamId d (codes "name") id) (field.only stream.descriptor stream.field) stream.stream in
-    none moved.name.field.members moved.name.field.object) is
+log_shown : (text : List ℕ) (m : Message) → IsPayload types.Log text m → (content : LogMsg) × IsLog text content × (m ≡ message.Log content)
+log_shown text (message.Log content) is = (content, is, refl)
+log_shown text _ is = absurd is
 
-pub kind_no_stream : (text descriptor : List ℕ) → IsOnly (HasField text (codes "stream_descriptor")) descriptor → IsAnswer (IsStreamId descriptor (codes "name")) None → IsAnswer (IsKind text) None
-kind_no_stream text descriptor field none = λ other is. kind_none text other (λ id blob stream. none id (subst (λ (d : List ℕ). IsStreamId d (codes "name") id) (field.only stream.descriptor stream.field) stream.stream)) is
+pub log_payload : (text : List ℕ) (found : Option LogMsg) → IsAnswer (IsLog text) found → IsAnswer (IsPayload types.Log text) (option_map (λ content. message.Log content) found)
+log_payload text = wrapped (λ content. message.Log content) (IsLog text) (IsPayload types.Log text) (λ content is. is) (log_shown text)
 
--- a state
-abbrev pub state_msg : List ℕ → StateKind → Option ℕ → StateMsg
-state_msg object what source_count = record { object = object; kind = what; source_count = source_count }
+spec_shown : (text : List ℕ) (m : Message) → IsPayload types.Spec text m → (content : SpecMsg) × IsSpec text content × (m ≡ message.Spec content)
+spec_shown text (message.Spec content) is = (content, is, refl)
+spec_shown text _ is = absurd is
 
-pub state_answer : (text stream : List ℕ) (members : List Member) (what : StateKind) (count : Option ℕ) → AreMembers state_depth text members → HasText text (codes "type") (codes "STREAM") → IsOnly (HasField text (codes "stream")) stream → IsOnly (IsKind stream) what → IsOnly (HasStats text) count → IsOnly (IsState text) (state_msg text what count)
-state_answer text stream members what count nests typed field kind_is count_is = record {
-  is = record { object = refl; nests = record { members = members; object = nests }; type = typed; stream = stream; stream_field = field.is; kind = kind_is.is; count = count_is.is };
-  only = λ other is. same other is.object (kind_is.only other.kind (subst (λ (s : List ℕ). IsKind s other.kind) (field.only is.stream is.stream_field) is.kind)) (count_is.only other.source_count is.count);
-}
-  where
-    same : (other : StateMsg) → other.object ≡ text → other.kind ≡ what → other.source_count ≡ count → other ≡ state_msg text what count
-    same other e f g = ap (λ (o : List ℕ). state_msg o other.kind other.source_count) e ∙ (ap (λ (k : StateKind). state_msg text k other.source_count) f ∙ ap (λ (n : Option ℕ). state_msg text what n) g)
+pub spec_payload : (text : List ℕ) (found : Option SpecMsg) → IsAnswer (IsSpec text) found → IsAnswer (IsPayload types.Spec text) (option_map (λ content. message.Spec content) found)
+spec_payload text = wrapped (λ content. message.Spec content) (IsSpec text) (IsPayload types.Spec text) (λ content is. is) (spec_shown text)
 
-pub state_uncut : (text : List ℕ) → ((members : List Member) → ¬ AreMembers state_depth text members) → IsAnswer (IsState text) None
-state_uncut text none = λ other is. none is.nests.members is.nests.object
+connection_shown : (text : List ℕ) (m : Message) → IsPayload types.Connection text m → (content : ConnectionMsg) × IsConnection text content × (m ≡ message.Connection content)
+connection_shown text (message.Connection content) is = (content, is, refl)
+connection_shown text _ is = absurd is
 
-pub state_untyped : (text : List ℕ) → ¬ HasText text (codes "type") (codes "STREAM") → IsAnswer (IsState text) None
-state_untyped text none = λ other is. none is.type
+pub connection_payload : (text : List ℕ) (found : Option ConnectionMsg) → IsAnswer (IsConnection text) found → IsAnswer (IsPayload types.Connection text) (option_map (λ content. message.Connection content) found)
+connection_payload text = wrapped (λ content. message.Connection content) (IsConnection text) (IsPayload types.Connection text) (λ content is. is) (connection_shown text)
 
-pub state_no_stream : (text : List ℕ) → IsAnswer (HasField text (codes "stream")) None → IsAnswer (IsState text) None
-state_no_stream text none = λ other is. none is.stream is.stream_field
+catalog_shown : (text : List ℕ) (m : Message) → IsPayload types.Catalog text m → (content : CatalogMsg) × IsCatalog text content × (m ≡ message.Catalog content)
+catalog_shown text (message.Catalog content) is = (content, is, refl)
+catalog_shown text _ is = absurd is
 
-pub state_no_kind : (text stream : List ℕ) → IsOnly (HasField text (codes "stream")) stream → IsAnswer (IsKind stream) None → IsAnswer (IsState text) None
-state_no_kind text stream field none = λ other is. none other.kind (subst (λ (s : List ℕ). IsKind s other.kind) (field.only is.stream is.stream_field) is.kind)
+pub catalog_payload : (text : List ℕ) (found : Option CatalogMsg) → IsAnswer (IsCatalog text) found → IsAnswer (IsPayload types.Catalog text) (option_map (λ content. message.Catalog content) found)
+catalog_payload text = wrapped (λ content. message.Catalog content) (IsCatalog text) (IsPayload types.Catalog text) (λ content is. is) (catalog_shown text)
 
-pub state_no_count : (text : List ℕ) → IsAnswer (HasStats text) None → IsAnswer (IsState text) None
-state_no_count text none = λ other is. none other.source_count is.count
+trace_shown : (text : List ℕ) (m : Message) → IsPayload types.Trace text m → (content : TraceMsg) × IsTrace text content × (m ≡ message.Trace content)
+trace_shown text (message.Trace content) is = (content, is, refl)
+trace_shown text _ is = absurd is
 
--- a line of type RECORD, and one of type STATE
-pub record_line_answer : (line payload : List ℕ) (found : Option RecordMsg) → HasText line (codes "type") (codes "RECORD") → IsOnly (HasField line (codes "record")) payload → IsAnswer (IsRecord payload) found → IsAnswer (IsRecordLine line) found
-record_line_answer line payload None typed field none = λ other is. none other (subst (λ (p : List ℕ). IsRecord p other) (field.only is.payload is.typed.field) is.is)
-record_line_answer line payload (Some content) typed field only = record {
-  is = record { payload = payload; typed = record { type = typed; field = field.is }; is = only.is };
-  only = λ other is. only.only other (subst (λ (p : List ℕ). IsRecord p other) (field.only is.payload is.typed.field) is.is);
-}
+pub trace_payload : (text : List ℕ) (found : Option TraceMsg) → IsAnswer (IsTrace text) found → IsAnswer (IsPayload types.Trace text) (option_map (λ content. message.Trace content) found)
+trace_payload text = wrapped (λ content. message.Trace content) (IsTrace text) (IsPayload types.Trace text) (λ content is. is) (trace_shown text)
 
-pub record_line_absent : (line : List ℕ) → IsAnswer (HasField line (codes "record")) None → IsAnswer (IsRecordLine line) None
-record_line_absent line field = λ other is. field is.payload is.typed.field
+control_shown : (text : List ℕ) (m : Message) → IsPayload types.Control text m → (content : ControlMsg) × IsControl text content × (m ≡ message.Control content)
+control_shown text (message.Control content) is = (content, is, refl)
+control_shown text _ is = absurd is
 
-pub state_line_answer : (line payload : List ℕ) (found : Option StateMsg) → HasText line (codes "type") (codes "STATE") → IsOnly (HasField line (codes "state")) payload → IsAnswer (IsState payload) found → IsAnswer (IsStateLine line) found
-state_line_answer line payload None typed field none = λ other is. none other (subst (λ (p : List ℕ). IsState p other) (field.only is.payload is.typed.field) is.is)
-state_line_answer line payload (Some state) typed field only = record {
-  is = record { payload = payload; typed = record { type = typed; field = field.is }; is = only.is };
-  only = λ other is. only.only other (subst (λ (p : List ℕ). IsState p other) (field.only is.payload is.typed.field) is.is);
-}
-
-pub state_line_absent : (line : List ℕ) → IsAnswer (HasField line (codes "state")) None → IsAnswer (IsStateLine line) None
-state_line_absent line field = λ other is. field is.payload is.typed.field
+pub control_payload : (text : List ℕ) (found : Option ControlMsg) → IsAnswer (IsControl text) found → IsAnswer (IsPayload types.Control text) (option_map (λ content. message.Control content) found)
+control_payload text = wrapped (λ content. message.Control content) (IsControl text) (IsPayload types.Control text) (λ content is. is) (control_shown text)
 
 -- a line's message
-message_none : (line : List ℕ) (other : Message) → ((content : RecordMsg) → ¬ IsRecordLine line content) → ((state : StateMsg) → ¬ IsStateLine line state) → IsMessage line other → ⊥
-message_none line (message.Rec content) rec state is = rec content is
-message_none line (message.State content) rec state is = state content is
+abbrev pub IsLineOf : List ℕ → MessageType → Type 0
+IsLineOf line type = HasText line (codes "type") (type_text type)
+
+moved : (line payload : List ℕ) (type : MessageType) (content : Message) → IsOnly (IsLineOf line) type → IsOnly (HasField line (payload_text type)) payload → IsMessage line content → IsPayload type payload content
+moved line payload type content typed field is =
+    let same = typed.only is.type is.typed in
+    let held = subst (λ (t : MessageType). HasField line (payload_text t) is.payload) same is.field in
+    let told = subst (λ (t : MessageType). IsPayload t is.payload content) same is.is in
+    subst (λ (p : List ℕ). IsPayload type p content) (field.only is.payload held) told
+
+pub message_answer : (line payload : List ℕ) (type : MessageType) (found : Option Message) → IsOnly (IsLineOf line) type → IsOnly (HasField line (payload_text type)) payload → IsAnswer (IsPayload type payload) found → IsAnswer (IsMessage line) found
+message_answer line payload type None typed field none = λ content is. none content (moved line payload type content typed field is)
+message_answer line payload type (Some told) typed field only = record {
+  is = record { type = type; typed = typed.is; payload = payload; field = field.is; is = only.is };
+  only = λ content is. only.only content (moved line payload type content typed field is);
+}
+
+pub message_absent : (line : List ℕ) (type : MessageType) → IsOnly (IsLineOf line) type → IsAnswer (HasField line (payload_text type)) None → IsAnswer (IsMessage line) None
+message_absent line type typed none = λ content is. none is.payload (subst (λ (t : MessageType). HasField line (payload_text t) is.payload) (typed.only is.type is.typed) is.field)
 
 pub message_uncut : (line : List ℕ) → ((members : List Member) → ¬ AreMembers line_depth line members) → IsAnswer (IsMessage line) None
-message_uncut line none = λ other is. message_none line other (λ content of. none of.typed.field.members of.typed.field.object) (λ state of. none of.typed.field.members of.typed.field.object) is
+message_uncut line none = λ content is. none is.typed.field.members is.typed.field.object
 
-pub message_untyped : (line : List ℕ) → IsAnswer (HasText line (codes "type")) None → IsAnswer (IsMessage line) None
-message_untyped line none = λ other is. message_none line other (λ content of. none (codes "RECORD") of.typed.type) (λ state of. none (codes "STATE") of.typed.type) is
-
-pub message_other : (line name : List ℕ) → IsOnly (HasText line (codes "type")) name → ¬ (name ≡ codes "RECORD") → ¬ (name ≡ codes "STATE") → IsAnswer (IsMessage line) None
-message_other line name typed no_record no_state = λ other is. message_none line other (λ content of. no_record (sym (typed.only (codes "RECORD") of.typed.type))) (λ state of. no_state (sym (typed.only (codes "STATE") of.typed.type))) is
-
-types_apart : (name : List ℕ) → name ≡ codes "RECORD" → name ≡ codes "STATE" → ⊥
-types_apart name e f =
-    let long : length name ≡ 6 = ap (λ (l : List ℕ). length l) e in
-    let short : length name ≡ 5 = ap (λ (l : List ℕ). length l) f in
-    omega arith
-
-no_state : (line name : List ℕ) → IsOnly (HasText line (codes "type")) name → name ≡ codes "RECORD" → (state : StateMsg) → ¬ IsStateLine line state
-no_state line name typed e = λ state of. types_apart name e (sym (typed.only (codes "STATE") of.typed.type))
-
-no_record : (line name : List ℕ) → IsOnly (HasText line (codes "type")) name → name ≡ codes "STATE" → (content : RecordMsg) → ¬ IsRecordLine line content
-no_record line name typed e = λ content of. types_apart name (sym (typed.only (codes "RECORD") of.typed.type)) e
-
-pub message_record : (line name : List ℕ) (content : RecordMsg) → IsOnly (HasText line (codes "type")) name → name ≡ codes "RECORD" → IsOnly (IsRecordLine line) content → IsOnly (IsMessage line) (message.Rec content)
-message_record line name content typed e only = record {
-  is = only.is;
-  only = λ other is. same other is;
-}
-  where
-    same : (other : Message) → IsMessage line other → other ≡ message.Rec content
-    same (message.Rec found) is = ap (λ (r : RecordMsg). message.Rec r) (only.only found is)
-    same (message.State found) is = absurd (no_state line name typed e found is)
-
-pub message_no_record : (line name : List ℕ) → IsOnly (HasText line (codes "type")) name → name ≡ codes "RECORD" → IsAnswer (IsRecordLine line) None → IsAnswer (IsMessage line) None
-message_no_record line name typed e none = λ other is. message_none line other none (no_state line name typed e) is
-
-pub message_state : (line name : List ℕ) (state : StateMsg) → IsOnly (HasText line (codes "type")) name → name ≡ codes "STATE" → IsOnly (IsStateLine line) state → IsOnly (IsMessage line) (message.State state)
-message_state line name state typed e only = record {
-  is = only.is;
-  only = λ other is. same other is;
-}
-  where
-    same : (other : Message) → IsMessage line other → other ≡ message.State state
-    same (message.Rec found) is = absurd (no_record line name typed e found is)
-    same (message.State found) is = ap (λ (s : StateMsg). message.State s) (only.only found is)
-
-pub message_no_state : (line name : List ℕ) → IsOnly (HasText line (codes "type")) name → name ≡ codes "STATE" → IsAnswer (IsStateLine line) None → IsAnswer (IsMessage line) None
-message_no_state line name typed e none = λ other is. message_none line other (no_record line name typed e) none is
-
--- one more member at the end
-pub Without-dropped : (text name : List ℕ) (members kept : List Member) (m : Member) → Without text name members kept → IsNamed text name m → Without text name (members ++ m ∷ []) kept
-Without-dropped text name [] kept m h named = ([], refl, inl (named, h))
-Without-dropped text name (x ∷ members) kept m h named = (h.0, Without-dropped text name members h.0 m h.1 named, h.2)
-
-more : (text name : List ℕ) (x m : Member) (others kept : List Member) → (IsNamed text name x × (kept ≡ others)) ⊎ ((¬ IsNamed text name x) × (kept ≡ x ∷ others)) → (IsNamed text name x × (kept ++ m ∷ [] ≡ others ++ m ∷ [])) ⊎ ((¬ IsNamed text name x) × (kept ++ m ∷ [] ≡ x ∷ (others ++ m ∷ [])))
-more text name x m others kept (inl h) = inl (h.0, ap (λ (k : List Member). k ++ m ∷ []) h.1)
-more text name x m others kept (inr h) = inr (h.0, ap (λ (k : List Member). k ++ m ∷ []) h.1)
-
-pub Without-kept : (text name : List ℕ) (members kept : List Member) (m : Member) → Without text name members kept → ¬ IsNamed text name m → Without text name (members ++ m ∷ []) (kept ++ m ∷ [])
-Without-kept text name [] kept m h other = ([], refl, inr (other, ap (λ (k : List Member). k ++ m ∷ []) h))
-Without-kept text name (x ∷ members) kept m h other = (h.0 ++ m ∷ [], Without-kept text name members h.0 m h.1 other, more text name x m h.0 kept h.2)
-
-pub pushes_dropped : (object : List ℕ) (members : List Member) (i : ℕ) (d : Member) (key before now : List ℕ) → i < length members → key ≡ text_at object (slice_index_or members i d).key → IsString key (codes "destinationStats") → PushesKept object (take i members) before now → PushesKept object (take (i + 1) members) before now
-pushes_dropped object members i d key before now lt is named h = record {
-  kept = h.kept;
-  without = subst (λ (ms : List Member). Without object (codes "destinationStats") ms h.kept) (sym (take_more members i d lt)) (Without-dropped object (codes "destinationStats") (take i members) h.kept (slice_index_or members i d) h.without (subst (λ (k : List ℕ). IsString k (codes "destinationStats")) is named));
-  grew = h.grew;
-}
-
-pub pushes_kept : (object : List ℕ) (members : List Member) (i : ℕ) (d : Member) (key before now after : List ℕ) → i < length members → key ≡ text_at object (slice_index_or members i d).key → ¬ IsString key (codes "destinationStats") → after ≡ now ++ member_text object (slice_index_or members i d) → PushesKept object (take i members) before now → PushesKept object (take (i + 1) members) before after
-pushes_kept object members i d key before now after lt is other pushed h =
-    let m = slice_index_or members i d in
-    record {
-      kept = h.kept ++ m ∷ [];
-      without = subst (λ (ms : List Member). Without object (codes "destinationStats") ms (h.kept ++ m ∷ [])) (sym (take_more members i d lt)) (Without-kept object (codes "destinationStats") (take i members) h.kept m h.without (λ named. other (subst (λ (k : List ℕ). IsString k (codes "destinationStats")) (sym is) named)));
-      grew = pushed ∙ (ap (λ (l : List ℕ). l ++ member_text object m) h.grew ∙ flat_map_more (member_text object) before h.kept m);
-    }
-
--- a fact about what was found, where it is known what was found
-pub along : {A : Type 0} (P : A → Type 0) {found shown : Option A} → found ≡ shown → IsAnswer P found → IsAnswer P shown
-along {A} P e answer = subst (λ (f : Option A). IsAnswer P f) e answer
-
-pub along_only : {A : Type 0} (P : A → Type 0) {found shown : A} → found ≡ shown → IsOnly P found → IsOnly P shown
-along_only {A} P e only = subst (λ (f : A). IsOnly P f) e only
-
-pub uncut : (limit : ℕ) (text : List ℕ) (found : Option (List Member)) → found ≡ None → IfNone found ((members : List Member) → ¬ AreMembers limit text members) → (members : List Member) → ¬ AreMembers limit text members
-uncut limit text found e none = subst (λ (f : Option (List Member)). IfNone f ((members : List Member) → ¬ AreMembers limit text members)) e none
-
-pub within : (limit : ℕ) (text : List ℕ) (found : Option (List Member)) (members : List Member) → found ≡ Some members → IfSome found (AreMembers limit text) → AreMembers limit text members
-within limit text found members e some = subst (λ (f : Option (List Member)). IfSome f (AreMembers limit text)) e some
-
-pub told : (line : List ℕ) (result : Result (Option Message) NoMemory) (found : Option Message) → result ≡ Ok found → IsAnswer (IsMessage line) found → IfOk result (IsAnswer (IsMessage line))
-told line result found e answer = subst (λ (r : Result (Option Message) NoMemory). IfOk r (IsAnswer (IsMessage line))) (sym e) answer
-
--- tests
-pub true_false : true ≡ false → ⊥
-true_false e = cc
-
-pub named_is : (name text shown : List ℕ) (b : Bool) → b ≡ bytes_eq shown text → shown ≡ name → b ≡ true → name ≡ text
-named_is name text shown b e same equal = sym same ∙ (bytes_eq-Decides shown text).0 (sym e ∙ equal)
-
-pub named_not : (name text shown : List ℕ) (b : Bool) → b ≡ bytes_eq shown text → shown ≡ name → b ≡ false → ¬ (name ≡ text)
-named_not name text shown b e same other = λ is. true_false (sym ((bytes_eq-Decides shown text).1 (same ∙ is)) ∙ (sym e ∙ other))
-
--- a state's object is cut at the depth of a line
-pub state_is_cut : (object shown : List ℕ) → shown ≡ object → NestsWithin state_depth object → ((members : List Member) → ¬ AreMembers line_depth shown members) → ⊥
-state_is_cut object shown e nests none =
-    let small : nests.object.deep ≤ 124 = nests.object.within in
-    none nests.members (subst (λ (o : List ℕ). AreMembers line_depth o nests.members) (sym e) (record { deep = nests.object.deep; within = omega arith; object = nests.object.object }))
+pub message_untyped : (line : List ℕ) → IsAnswer (IsLineOf line) None → IsAnswer (IsMessage line) None
+message_untyped line none = λ content is. none is.type is.typed

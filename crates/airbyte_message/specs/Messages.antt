@@ -1,42 +1,22 @@
--- Which line is which message (Airbyte Protocol, version 0: AirbyteRecordMessage, AirbyteStateMessage,
--- StreamDescriptor), as a table over the members of objects. A member that the table does not name is not read.
-use Rattle.std.specs.Prelude.{◌≡◌, ℕ, ◌<◌, ◌^◌, List, Option, None, Some, codes}
-use Rattle.json_scalar.specs.Number.{IsWhole}
-use Rattle.json_span.specs.Members.{AreMembers, IsSomeObject}
-use Rattle.json_span.specs.declared.Member.{Member}
-use Rattle.outside.specs.declared.event.StreamId.{StreamId}
+-- Which line is which message (Airbyte Protocol, version 0), as a table over the members of objects. A member that
+-- the table does not name is not read.
+use Rattle.std.specs.Prelude.{◌≡◌, ℕ, List, codes}
 use Rattle.json_fields.specs.Fields.{HasField, HasOptional, HasText, HasOptionalText}
+use Rattle.airbyte_message.specs.Parts.{HasArray, HasCount, HasObject, IsStreamId}
+use Rattle.airbyte_message.specs.Words.{level_text, connection_text, type_text, payload_text}
+use Rattle.airbyte_message.specs.States.{IsState}
+use Rattle.airbyte_message.specs.Traces.{IsTrace}
 use Rattle.airbyte_message.specs.declared.message.Message.{Message}
 use Rattle.airbyte_message.specs.declared.message.Message.TheVariants as message
 use Rattle.airbyte_message.specs.declared.message.RecordMsg.{RecordMsg}
 use Rattle.airbyte_message.specs.declared.message.StateMsg.{StateMsg}
-use Rattle.airbyte_message.specs.declared.message.StateKind.{StateKind}
-use Rattle.airbyte_message.specs.declared.message.StateKind.TheVariants as kind
-
--- a state nests less than a line, so that the state store can hold it
-abbrev pub state_depth : ℕ
-state_depth = 124
-
--- a whole number below 2^63
-pub record IsCount (text : List ℕ) (count : ℕ) : Type 0 where
-  pub whole : IsWhole text count
-  pub small : count < 2 ^ 63
-
--- the member of this name is such a number
-pub record HasCount (text name : List ℕ) (count : ℕ) : Type 0 where
-  pub held : List ℕ
-  pub field : HasField text name held
-  pub is : IsCount held count
-
--- a stream's name, in the member of this name, and perhaps its namespace
-pub record IsStreamId (text name_member : List ℕ) (id : StreamId) : Type 0 where
-  pub name : HasText text name_member id.name
-  pub namespace : HasOptionalText text (codes "namespace") id.namespace
-
--- the member of this name is an object
-pub record HasObject (text name held : List ℕ) : Type 0 where
-  pub field : HasField text name held
-  pub object : IsSomeObject held
+use Rattle.airbyte_message.specs.declared.message.LogMsg.{LogMsg}
+use Rattle.airbyte_message.specs.declared.message.SpecMsg.{SpecMsg}
+use Rattle.airbyte_message.specs.declared.message.ConnectionMsg.{ConnectionMsg}
+use Rattle.airbyte_message.specs.declared.message.CatalogMsg.{CatalogMsg}
+use Rattle.airbyte_message.specs.declared.message.ControlMsg.{ControlMsg}
+use Rattle.airbyte_message.specs.declared.read.MessageType.{MessageType}
+use Rattle.airbyte_message.specs.declared.read.MessageType.TheVariants as types
 
 -- the `record` of a RECORD line
 pub record IsRecord (text : List ℕ) (content : RecordMsg) : Type 0 where
@@ -45,68 +25,49 @@ pub record IsRecord (text : List ℕ) (content : RecordMsg) : Type 0 where
   pub emitted_at : HasCount text (codes "emitted_at") content.emitted_at
   pub meta : HasOptional text (codes "meta") content.meta
 
--- absent, or a count
-abbrev pub IsOptionalCount : Option (List ℕ) → Option ℕ → Type 0
-IsOptionalCount None count = count ≡ None
-IsOptionalCount (Some held) None = ⊥
-IsOptionalCount (Some held) (Some count) = IsCount held count
+-- the `log` of a LOG line
+pub record IsLog (text : List ℕ) (content : LogMsg) : Type 0 where
+  pub level : HasText text (codes "level") (level_text content.level)
+  pub message : HasText text (codes "message") content.text
 
--- the `recordCount` of `sourceStats`, either of which may be absent
-pub record IsStats (text : List ℕ) (count : Option ℕ) : Type 0 where
-  pub held : Option (List ℕ)
-  pub optional : HasOptional text (codes "recordCount") held
-  pub is : IsOptionalCount held count
+-- the `spec` of a SPEC line
+pub record IsSpec (text : List ℕ) (content : SpecMsg) : Type 0 where
+  pub specification : HasObject text (codes "connectionSpecification") content.specification
 
-abbrev pub AreOptionalStats : Option (List ℕ) → Option ℕ → Type 0
-AreOptionalStats None count = count ≡ None
-AreOptionalStats (Some stats) count = IsStats stats count
+-- the `connectionStatus` of a CONNECTION_STATUS line
+pub record IsConnection (text : List ℕ) (content : ConnectionMsg) : Type 0 where
+  pub status : HasText text (codes "status") (connection_text content.succeeded)
+  pub message : HasOptionalText text (codes "message") content.text
 
-pub record HasStats (text : List ℕ) (count : Option ℕ) : Type 0 where
-  pub held : Option (List ℕ)
-  pub optional : HasOptional text (codes "sourceStats") held
-  pub stats : AreOptionalStats held count
+-- the `catalog` of a CATALOG line
+pub record IsCatalog (text : List ℕ) (content : CatalogMsg) : Type 0 where
+  pub streams : HasArray text (codes "streams") content.streams
 
--- the `stream` of a state: its stream, and its blob, which is the source's own
-pub record IsStreamState (text : List ℕ) (id : StreamId) (blob : Option (List ℕ)) : Type 0 where
-  pub descriptor : List ℕ
-  pub field : HasField text (codes "stream_descriptor") descriptor
-  pub stream : IsStreamId descriptor (codes "name") id
-  pub state : HasOptional text (codes "stream_state") blob
+-- the `control` of a CONTROL line
+pub record IsControl (text : List ℕ) (content : ControlMsg) : Type 0 where
+  pub object : content.object ≡ text
+  pub name : List ℕ
+  pub type : HasText text (codes "type") name
 
-abbrev pub IsKind : List ℕ → StateKind → Type 0
-IsKind text (kind.Stream id blob) = IsStreamState text id blob
-
--- the object nests at most so deep
-pub record NestsWithin (limit : ℕ) (text : List ℕ) : Type 0 where
-  pub members : List Member
-  pub object : AreMembers limit text members
-
--- the `state` of a STATE line of type STREAM
-pub record IsState (text : List ℕ) (state : StateMsg) : Type 0 where
-  pub object : state.object ≡ text
-  pub nests : NestsWithin state_depth text
-  pub type : HasText text (codes "type") (codes "STREAM")
-  pub stream : List ℕ
-  pub stream_field : HasField text (codes "stream") stream
-  pub kind : IsKind stream state.kind
-  pub count : HasStats text state.source_count
-
--- a line of this type with this payload
-pub record IsTyped (line type_name payload_name payload : List ℕ) : Type 0 where
-  pub type : HasText line (codes "type") type_name
-  pub field : HasField line payload_name payload
-
-pub record IsRecordLine (line : List ℕ) (content : RecordMsg) : Type 0 where
-  pub payload : List ℕ
-  pub typed : IsTyped line (codes "RECORD") (codes "record") payload
-  pub is : IsRecord payload content
-
-pub record IsStateLine (line : List ℕ) (state : StateMsg) : Type 0 where
-  pub payload : List ℕ
-  pub typed : IsTyped line (codes "STATE") (codes "state") payload
-  pub is : IsState payload state
+-- what a line of this type tells, by the text of its payload
+abbrev pub IsPayload : MessageType → List ℕ → Message → Type 0
+IsPayload types.Rec text (message.Rec content) = IsRecord text content
+IsPayload types.State text (message.State content) = IsState text content
+IsPayload types.Log text (message.Log content) = IsLog text content
+IsPayload types.Spec text (message.Spec content) = IsSpec text content
+IsPayload types.Connection text (message.Connection content) = IsConnection text content
+IsPayload types.Catalog text (message.Catalog content) = IsCatalog text content
+IsPayload types.Trace text (message.Trace content) = IsTrace text content
+IsPayload types.Control text (message.Control content) = IsControl text content
+IsPayload _ text _ = ⊥
 
 -- the line is this message
-abbrev pub IsMessage : List ℕ → Message → Type 0
-IsMessage line (message.Rec content) = IsRecordLine line content
-IsMessage line (message.State state) = IsStateLine line state
+pub record IsMessage (line : List ℕ) (content : Message) : Type 0 where
+  pub type : MessageType
+  pub typed : HasText line (codes "type") (type_text type)
+  pub payload : List ℕ
+  pub field : HasField line (payload_text type) payload
+  pub is : IsPayload type payload content
+
+abbrev pub IsStateLine : List ℕ → StateMsg → Type 0
+IsStateLine line state = IsMessage line (message.State state)

@@ -1,8 +1,10 @@
 // The echo of a state.
-ghost use Rattle.std.specs.Prelude.{◌≡◌, ◌++◌, All, IfOk, OnOk};
+ghost use Rattle.std.specs.Prelude.{◌≡◌, ◌≢◌, ◌++◌, All, IfOk, OnOk};
 ghost use Rattle.json_span.specs.Members.{IsMemberOf};
 ghost use Rattle.airbyte_message.specs.Echo.{IsEcho, PushesKept, member_text};
-ghost use Rattle.airbyte_message.specs.Messages.{NestsWithin, state_depth};
+ghost use Rattle.airbyte_message.specs.declared.message.StateKind.TheVariants.{Legacy};
+ghost use Rattle.airbyte_message.specs.Parts.{NestsWithin};
+ghost use Rattle.airbyte_message.specs.States.{state_depth};
 
 use crate::StateMsg;
 use json_fields::cut;
@@ -44,9 +46,10 @@ fn push_members(
 }
 
 /// The line by which a destination sends a state back after committing `count` records: the state's members as they
-/// stand, without `destinationStats`, and then `destinationStats` with the count.
+/// stand, without `destinationStats`, and then `destinationStats` with the count. A Legacy state has no echo.
 pub fn echo_of(alloc: Global, state: &StateMsg, count: u64) -> Result<Bytes, NoMemory>
-    requires { NestsWithin state_depth state.now.object }
+    requires nests { NestsWithin state_depth state.now.object }
+    requires echoed { state.now.kind ≢ Legacy }
     ensures { IfOk result (IsEcho state.now.object count) }
 {
     let object = state.object.as_slice();

@@ -1,10 +1,31 @@
 //! Airbyte messages, read from lines, and the echo of a state.
 #![tactic(auto)]
 
+mod catalog_message;
+mod connection_message;
+mod control_message;
 mod echo;
+mod failure_type;
+mod level;
+mod log_message;
 mod message;
+mod parts;
+mod read;
 mod record_message;
+mod same;
+mod spec_message;
 mod state_message;
+mod stream_blob;
+mod stream_status;
+mod trace_message;
 
 pub use echo::echo_of;
-pub use message::{Message, Raw, RecordMsg, StateKind, StateMsg, read_message};
+pub use failure_type::FailureType;
+pub use level::Level;
+pub use message::{
+    CatalogMsg, ConnectionMsg, ControlMsg, LogMsg, Message, Raw, RecordMsg, SpecMsg, StateKind,
+    StateMsg, StreamBlob, StreamBlobList, TraceMsg,
+};
+pub use read::read_message;
+pub use same::same_state;
+pub use stream_status::StreamStatus;

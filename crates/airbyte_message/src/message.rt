@@ -1,15 +1,6 @@
-// The messages of the protocol, and which line is which.
-ghost use Rattle.std.specs.Prelude.{◌≡◌, IfOk, codes};
-ghost use Rattle.json_fields.specs.Answer.{IsAnswer};
-ghost use Rattle.json_fields.specs.Fields.{HasText, IsCut};
-ghost use Rattle.airbyte_message.specs.Messages.{IsMessage, IsRecordLine, IsStateLine};
-
-use crate::record_message::record_of;
-use crate::state_message::state_of;
-use json_fields::{cut, field, text_field};
-use json_span::{MAX_DEPTH, MemberList};
-use outside::{Bytes, NoMemory, StreamId};
-use std::alloc::Global;
+// The messages of the protocol.
+use crate::{FailureType, Level, StreamStatus};
+use outside::{Bytes, Name, Sequence, StreamId};
 
 /// The text of a JSON value, as it stood in its line.
 pub type Raw = Bytes;
@@ -35,11 +26,89 @@ pub struct StateMsg {
     pub source_count: Option<u64>,
 }
 
-/// What a state is of.
+/// What a state is of. A blob is a member `stream_state`, which is the source's own and opaque.
 #[derive(Debug, Drop)]
 pub enum StateKind {
-    /// One stream. The blob is the member `stream_state`, which is the source's own and opaque.
-    Stream { id: StreamId, blob: Option<Raw> },
+    /// One stream.
+    Stream {
+        id: StreamId,
+        blob: Option<Raw>,
+    },
+    /// All streams: the member `shared_state`, and what stands in `stream_states`, in its order.
+    Global {
+        shared: Option<Raw>,
+        streams: StreamBlobList,
+    },
+    /// A state of the form before states had types.
+    Legacy,
+}
+
+/// A stream and its blob.
+#[derive(Debug, Drop)]
+pub struct StreamBlob {
+    pub id: StreamId,
+    pub blob: Option<Raw>,
+}
+
+/// Streams and their blobs, in the order of the text.
+pub type StreamBlobList = Sequence<StreamBlob>;
+
+/// A line of a log.
+#[derive(Debug, Drop)]
+pub struct LogMsg {
+    pub level: Level,
+    /// The member `message`.
+    pub text: Name,
+}
+
+/// What a connector takes as its configuration.
+#[derive(Debug, Drop)]
+pub struct SpecMsg {
+    /// The member `connectionSpecification`, an object.
+    pub specification: Raw,
+}
+
+/// Whether a configuration serves.
+#[derive(Debug, Drop)]
+pub struct ConnectionMsg {
+    pub succeeded: bool,
+    /// The member `message`.
+    pub text: Option<Name>,
+}
+
+/// The streams that a source has.
+#[derive(Debug, Drop)]
+pub struct CatalogMsg {
+    /// The member `streams`, an array.
+    pub streams: Raw,
+}
+
+/// What a connector tells of its run. The member `emitted_at` is any JSON number, as it stood.
+#[derive(Debug, Drop)]
+pub enum TraceMsg {
+    /// The member `error`: its message and its failure type.
+    Error {
+        text: Name,
+        failure: Option<FailureType>,
+        emitted_at: Option<Raw>,
+    },
+    /// The member `stream_status`.
+    Status {
+        id: StreamId,
+        status: StreamStatus,
+        emitted_at: Option<Raw>,
+    },
+    /// An estimate, or one for analytics: the member `trace` as it stood.
+    Other {
+        object: Raw,
+    },
+}
+
+/// What a connector asks of its platform.
+#[derive(Debug, Drop)]
+pub struct ControlMsg {
+    /// The member `control`, an object.
+    pub object: Raw,
 }
 
 /// A message of the protocol.
@@ -47,61 +116,10 @@ pub enum StateKind {
 pub enum Message {
     Rec(RecordMsg),
     State(StateMsg),
-}
-
-// The record of a line of type RECORD.
-fn record_line(
-    alloc: Global,
-    line: &[u8],
-    members: &MemberList,
-) -> Result<Option<RecordMsg>, NoMemory>
-    requires cut { IsCut line.now members.now }
-    requires typed { HasText line.now (codes "type") (codes "RECORD") }
-    ensures { IfOk result (IsAnswer (IsRecordLine line.now)) }
-{
-    match field(alloc, line, members, "record")? {
-        Some(payload) => record_of(alloc, payload),
-        None => Ok(None),
-    }
-}
-
-// The state of a line of type STATE.
-fn state_line(
-    alloc: Global,
-    line: &[u8],
-    members: &MemberList,
-) -> Result<Option<StateMsg>, NoMemory>
-    requires cut { IsCut line.now members.now }
-    requires typed { HasText line.now (codes "type") (codes "STATE") }
-    ensures { IfOk result (IsAnswer (IsStateLine line.now)) }
-{
-    match field(alloc, line, members, "state")? {
-        Some(payload) => state_of(alloc, payload),
-        None => Ok(None),
-    }
-}
-
-/// The message that a line is, `None` where it is no RECORD message and no STATE message of type STREAM.
-pub fn read_message(alloc: Global, line: &[u8]) -> Result<Option<Message>, NoMemory>
-    ensures { IfOk result (IsAnswer (IsMessage line.now)) }
-{
-    let Some(members) = cut(alloc, line, MAX_DEPTH)? else {
-        return Ok(None);
-    };
-    let Some(kind) = text_field(alloc, line, &members, "type")? else {
-        return Ok(None);
-    };
-    if kind.as_str() == "RECORD" {
-        return match record_line(alloc, line, &members)? {
-            Some(content) => Ok(Some(Message::Rec(content))),
-            None => Ok(None),
-        };
-    }
-    if kind.as_str() == "STATE" {
-        return match state_line(alloc, line, &members)? {
-            Some(state) => Ok(Some(Message::State(state))),
-            None => Ok(None),
-        };
-    }
-    Ok(None)
+    Log(LogMsg),
+    Spec(SpecMsg),
+    Connection(ConnectionMsg),
+    Catalog(CatalogMsg),
+    Trace(TraceMsg),
+    Control(ControlMsg),
 }

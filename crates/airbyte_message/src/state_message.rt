@@ -1,18 +1,63 @@
-// The payload of a STATE line of type STREAM.
-ghost use Rattle.std.specs.Prelude.{◌≡◌, IfOk};
+// The payload of a STATE line.
+ghost use Rattle.std.specs.Prelude.{IfOk, Some};
 ghost use Rattle.json_fields.specs.Answer.{IsAnswer};
 ghost use Rattle.json_fields.specs.Fields.{IsCut};
-ghost use Rattle.airbyte_message.specs.Messages.{IsState, IsStats, HasStats, IsKind};
+ghost use Rattle.airbyte_message.specs.States.{HasStats, HasStateType, IsKind, IsState, IsStateType, IsStats};
 
-use crate::record_message::{copied, stream_id_of};
-use crate::{StateKind, StateMsg};
-use json_fields::{cut, field, has_text, optional};
+use crate::stream_blob::{global_of, stream_of};
+use crate::{StateKind, StateMsg, StreamBlob};
+use json_fields::{cut, optional, optional_text};
 use json_span::{MAX_DEPTH, MemberList, whole_of};
-use outside::{Bytes, NoMemory};
+use outside::{Bytes, Name, NoMemory};
 use std::alloc::Global;
 
 // A state nests at most so deep, so that the state store can hold it.
 const STATE_DEPTH: usize = 124;
+
+/// What a state is of, by its `type`.
+#[derive(Clone, Copy, Debug, PartialEq, Eq)]
+pub enum StateType {
+    Stream,
+    Global,
+    Legacy,
+}
+
+// The type of a state whose `type` is this.
+fn type_named(name: &str) -> Option<StateType>
+    ensures { IsAnswer (IsStateType (Some name.now)) result }
+{
+    if name == "STREAM" {
+        return Some(StateType::Stream);
+    }
+    if name == "GLOBAL" {
+        return Some(StateType::Global);
+    }
+    if name == "LEGACY" {
+        return Some(StateType::Legacy);
+    }
+    None
+}
+
+// The type of a state whose `type` is this, or absent.
+fn optional_type(name: &Option<Name>) -> Option<StateType>
+    ensures { IsAnswer (IsStateType name.now) result }
+{
+    match name {
+        Some(name) => type_named(name.as_str()),
+        None => Some(StateType::Legacy),
+    }
+}
+
+// The member `type`.
+fn type_of(alloc: Global, text: &[u8], members: &MemberList) -> Result<Option<StateType>, NoMemory>
+    requires { IsCut text.now members.now }
+    ensures { IfOk result (IsAnswer (HasStateType text.now)) }
+{
+    match optional_text(alloc, text, members, "type")? {
+        Some(name) => Ok(optional_type(&name)),
+        None => Ok(None),
+    }
+}
 
 // The `recordCount` of `sourceStats`, `Some(None)` where it is absent, `None` where the text is no such object.
 fn stats_of(alloc: Global, text: &[u8]) -> Result<Option<Option<u64>>, NoMemory>
@@ -45,27 +90,24 @@ fn source_count_of(
     }
 }
 
-// The `stream` of a state.
-fn kind_of(alloc: Global, text: &[u8]) -> Result<Option<StateKind>, NoMemory>
-    ensures { IfOk result (IsAnswer (IsKind text.now)) }
+// What a state of this type is of.
+fn kind_of(
+    alloc: Global,
+    text: &[u8],
+    members: &MemberList,
+    state_type: StateType,
+) -> Result<Option<StateKind>, NoMemory>
+    requires { IsCut text.now members.now }
+    ensures { IfOk result (IsAnswer (IsKind state_type text.now)) }
 {
-    let Some(members) = cut(alloc, text, MAX_DEPTH)? else {
-        return Ok(None);
-    };
-    let Some(descriptor) = field(alloc, text, &members, "stream_descriptor")? else {
-        return Ok(None);
-    };
-    let Some(parts) = cut(alloc, descriptor, MAX_DEPTH)? else {
-        return Ok(None);
-    };
-    let Some(id) = stream_id_of(alloc, descriptor, &parts, "name")? else {
-        return Ok(None);
-    };
-    let blob = optional(alloc, text, &members, "stream_state")?;
-    Ok(Some(StateKind::Stream {
-        id,
-        blob: copied(alloc, blob)?,
-    }))
+    match state_type {
+        StateType::Stream => match stream_of(alloc, text, members)? {
+            Some(StreamBlob { id, blob }) => Ok(Some(StateKind::Stream { id, blob })),
+            None => Ok(None),
+        },
+        StateType::Global => global_of(alloc, text, members),
+        StateType::Legacy => Ok(Some(StateKind::Legacy)),
+    }
 }
 
 /// The state that a payload is.
@@ -75,13 +117,10 @@ pub fn state_of(alloc: Global, text: &[u8]) -> Result<Option<StateMsg>, NoMemory
     let Some(members) = cut(alloc, text, STATE_DEPTH)? else {
         return Ok(None);
     };
-    if !has_text(alloc, text, &members, "type", "STREAM")? {
-        return Ok(None);
-    }
-    let Some(stream) = field(alloc, text, &members, "stream")? else {
+    let Some(state_type) = type_of(alloc, text, &members)? else {
         return Ok(None);
     };
-    let Some(kind) = kind_of(alloc, stream)? else {
+    let Some(kind) = kind_of(alloc, text, &members, state_type)? else {
         return Ok(None);
     };
     let Some(source_count) = source_count_of(alloc, text, &members)? else {

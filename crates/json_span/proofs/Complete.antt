@@ -1,9 +1,9 @@
--- A text that the machine reads to its end is the spelling of some object.
+-- A text that the machine reads to its end is the spelling of some object, or some array.
 use Rattle.std.proofs.Common.{◌≡◌, ℕ, ◌+◌, ◌-◌, ◌⊎◌, inl, inr, List, [], ◌∷◌, true, false, Some, None, length, refl, lit<}
 use Rattle.json_scalar.specs.Number.{Digit, nought, counted, unsigned, plus, minus}
 use Rattle.json_span.specs.Grammar as json
 use Rattle.json_span.specs.Grammar.{Space, space_byte, Value, Items, Members}
-use Rattle.json_span.specs.Table.{class_of, next_spot, text_move, number_move, value_move, after_move, table, move_of}
+use Rattle.json_span.specs.Table.{class_of, next_spot, text_move, number_move, value_move, after_move, start_move, table, move_of}
 use Rattle.json_span.specs.Machine.{value_ended, made, moved, stepped, run, initial, IsDone}
 use Rattle.json_span.specs.declared.class.Class.{Class}
 use Rattle.json_span.specs.declared.class.Class.TheVariants as class
@@ -25,7 +25,7 @@ use Rattle.json_span.specs.declared.machine.Machine.{Machine}
 use Rattle.json_span.proofs.Steps.{state}
 use Rattle.json_span.proofs.Classes.{class_fact}
 use Rattle.json_span.proofs.Strings.{TextContinues, spot_wants, word_wants}
-use Rattle.json_span.proofs.Wants.{SpacesEnd, ItemsEnd, MembersEnd, ValueEnd, ObjectEnd, ColonEnd, KeyEnd, ShutEnd, TextEnd, PowerEnd, SignEnd, MarkEnd, FractionEnd, PointEnd, ZeroEnd, WholeEnd, MinusEnd, Then, IsByte, NumberW, RestW, CloseW, TextRoleW, CommaW, Wants, Continues, IsOfClass}
+use Rattle.json_span.proofs.Wants.{SpacesEnd, ItemsEnd, MembersEnd, ValueEnd, ObjectEnd, ArrayEnd, ColonEnd, KeyEnd, ShutEnd, TextEnd, PowerEnd, SignEnd, MarkEnd, FractionEnd, PointEnd, ZeroEnd, WholeEnd, MinusEnd, Then, IsByte, NumberW, RestW, CloseW, TextRoleW, CommaW, Wants, Continues, IsOfClass}
 
 -- behind a value
 
@@ -159,9 +159,9 @@ false_ends P b (u ∷ v ∷ []) e h = absurd h.1.1
 false_ends P b (u ∷ v ∷ w ∷ []) e h = absurd h.1.1.1
 false_ends P b (u ∷ v ∷ w ∷ x ∷ bs) e h = record { spaces = []; value = json.no; rest = bs; spelled = cc (e, h.0, h.1.0, h.1.1.0, h.1.1.1.0); more = h.1.1.1.1 }
 
-array_wants : (k : List Frame) (b : ℕ) (bs : List ℕ) → b ≡ 91 → ShutEnd 93 (RestW k) bs ⊎ ValueEnd (ItemsEnd (RestW k)) bs → ValueEnd (RestW k) (b ∷ bs)
-array_wants k b bs e (inl h) = record { spaces = []; value = json.empty_array h.spaces; rest = h.rest; spelled = cc; more = h.more }
-array_wants k b bs e (inr h) = let n = h.more in record { spaces = []; value = json.array h.spaces h.value n.spaces n.items; rest = n.rest; spelled = cc (e, h.spelled, n.spelled); more = n.more }
+array_wants : (k : List Frame) (b : ℕ) (bs : List ℕ) → b ≡ 91 → ShutEnd 93 (RestW k) bs ⊎ ValueEnd (ItemsEnd (RestW k)) bs → ArrayEnd (RestW k) (b ∷ bs)
+array_wants k b bs e (inl h) = record { spaces = []; value = json.empty_array h.spaces; is = tt; rest = h.rest; spelled = cc; more = h.more }
+array_wants k b bs e (inr h) = let n = h.more in record { spaces = []; value = json.array h.spaces h.value n.spaces n.items; is = tt; rest = n.rest; spelled = cc (e, h.spelled, n.spelled); more = n.more }
 
 object_wants : (k : List Frame) (b : ℕ) (bs : List ℕ) → b ≡ 123 → ShutEnd 125 (RestW k) bs ⊎ KeyEnd (MembersEnd (RestW k)) bs → ObjectEnd (RestW k) (b ∷ bs)
 object_wants k b bs e (inl h) = record { spaces = []; value = json.empty_object h.spaces; is = tt; rest = h.rest; spelled = cc; more = h.more }
@@ -170,7 +170,7 @@ object_wants k b bs e (inr h) = let n = h.more in record { spaces = []; value = 
 value_wants : (t : Class) (k : List Frame) (b : ℕ) (bs : List ℕ) → IsOfClass t b → Continues (value_move t) k b bs → ValueEnd (RestW k) (b ∷ bs)
 value_wants class.Blank k b bs is h = let e = is.1 in record { spaces = is.0 ∷ h.spaces; value = h.value; rest = h.rest; spelled = cc (e, h.spelled); more = h.more }
 value_wants class.Quote k b bs is h = record { spaces = []; value = json.string h.pieces; rest = h.rest; spelled = cc; more = h.more }
-value_wants class.ArrayStart k b bs is h = array_wants k b bs is h
+value_wants class.ArrayStart k b bs is h = let a = array_wants k b bs is h in record { spaces = a.spaces; value = a.value; rest = a.rest; spelled = a.spelled; more = a.more }
 value_wants class.ObjectStart k b bs is h = let o = object_wants k b bs is h in record { spaces = o.spaces; value = o.value; rest = o.rest; spelled = o.spelled; more = o.more }
 value_wants class.Minus k b bs is h = record { spaces = []; value = json.number (record { is_negative = true; whole = h.whole; fraction = h.fraction; exponent = h.exponent }); rest = h.rest; spelled = cc; more = h.more }
 value_wants class.Zero k b bs is h = record { spaces = []; value = json.number (record { is_negative = false; whole = nought; fraction = h.fraction; exponent = h.exponent }); rest = h.rest; spelled = cc; more = h.more }
@@ -232,10 +232,17 @@ colon_wants class.Blank k b bs is h = let e = is.1 in record { behind = is.0 ∷
 colon_wants class.Colon k b bs is h = record { behind = []; ahead = h.spaces; value = h.value; rest = h.rest; spelled = cc; more = h.more }
 colon_wants _ k b bs is h = absurd h
 
-start_wants : (t : Class) (k : List Frame) (b : ℕ) (bs : List ℕ) → IsOfClass t b → Continues (table phase.Start t) k b bs → Wants phase.Start k (b ∷ bs)
-start_wants class.Blank k b bs is h = let e = is.1 in record { spaces = is.0 ∷ h.spaces; value = h.value; is = h.is; rest = h.rest; spelled = cc (e, h.spelled); more = h.more }
-start_wants class.ObjectStart k b bs is h = object_wants k b bs is h
-start_wants _ k b bs is h = absurd h
+start_blank : (f : Frame) (s : Space) (k : List Frame) (b : ℕ) (bs : List ℕ) → b ≡ space_byte s → Wants (phase.Start f) k bs → Wants (phase.Start f) k (b ∷ bs)
+start_blank frame.Array s k b bs e h = record { spaces = s ∷ h.spaces; value = h.value; is = h.is; rest = h.rest; spelled = cc (e, h.spelled); more = h.more }
+start_blank frame.Object s k b bs e h = record { spaces = s ∷ h.spaces; value = h.value; is = h.is; rest = h.rest; spelled = cc (e, h.spelled); more = h.more }
+
+start_wants : (f : Frame) (t : Class) (k : List Frame) (b : ℕ) (bs : List ℕ) → IsOfClass t b → Continues (start_move f t) k b bs → Wants (phase.Start f) k (b ∷ bs)
+start_wants frame.Array class.Blank k b bs is h = start_blank frame.Array is.0 k b bs is.1 h
+start_wants frame.Object class.Blank k b bs is h = start_blank frame.Object is.0 k b bs is.1 h
+start_wants frame.Array class.ArrayStart k b bs is h = array_wants k b bs is h
+start_wants frame.Object class.ObjectStart k b bs is h = object_wants k b bs is h
+start_wants frame.Array _ k b bs is h = absurd h
+start_wants frame.Object _ k b bs is h = absurd h
 
 done_wants : (t : Class) (k : List Frame) (b : ℕ) (bs : List ℕ) → IsOfClass t b → Continues (table phase.Done t) k b bs → Wants phase.Done k (b ∷ bs)
 done_wants class.Blank k b bs is h = let e = is.1 in record { spaces = is.0 ∷ h.spaces; spelled = cc (e, h.spelled) }
@@ -249,7 +256,7 @@ text_wants r s k b bs text.Fail h = absurd h
 
 -- What a byte leaves to be completed, it completes with that byte in front.
 wants_more : (p : Phase) (k : List Frame) (b : ℕ) (bs : List ℕ) → Continues (move_of p b) k b bs → Wants p k (b ∷ bs)
-wants_more phase.Start k b bs h = start_wants (class_of b) k b bs (class_fact b) h
+wants_more (phase.Start f) k b bs h = start_wants f (class_of b) k b bs (class_fact b) h
 wants_more phase.FirstKey k b bs h = first_key_wants (class_of b) k b bs (class_fact b) h
 wants_more phase.Key k b bs h = key_wants (class_of b) k b bs (class_fact b) h
 wants_more phase.Colon k b bs h = colon_wants (class_of b) k b bs (class_fact b) h
@@ -316,6 +323,9 @@ completes (b ∷ bs) size m h =
     (moved_continues (move_of m.phase b) m.phase m.frames m.deepest m.cutter b (size - length (b ∷ bs)) (size - length bs) bs
     (completes bs size (stepped m b (size - length (b ∷ bs)) (size - length bs)) h))
 
--- So the text of the whole machine is an object's.
-pub is_spelled : (text : List ℕ) (size : ℕ) → IsDone (run size initial text).phase → ObjectEnd (λ bs. SpacesEnd bs) text
-is_spelled text size h = completes text size initial h
+-- So the text of the whole machine is an object's, or an array's.
+pub is_spelled : (text : List ℕ) (size : ℕ) → IsDone (run size (initial frame.Object) text).phase → ObjectEnd (λ bs. SpacesEnd bs) text
+is_spelled text size h = completes text size (initial frame.Object) h
+
+pub is_spelled_array : (text : List ℕ) (size : ℕ) → IsDone (run size (initial frame.Array) text).phase → ArrayEnd (λ bs. SpacesEnd bs) text
+is_spelled_array text size h = completes text size (initial frame.Array) h

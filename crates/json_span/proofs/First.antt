@@ -36,7 +36,7 @@ is_object_value (json.string ps) rest e = absurd (omega (arith, e))
 is_object_value (json.empty_array ss) rest e = absurd (omega (arith, e))
 is_object_value (json.array before v after items) rest e = absurd (omega (arith, e))
 
-value_is : (text : List ℕ) (v : Value) → text ≡ value_text v → text ≡ value_then v []
+pub value_is : (text : List ℕ) (v : Value) → text ≡ value_text v → text ≡ value_then v []
 value_is text v e = e ∙ sym (append-nil (value_text v)) ∙ sym (value_then-is v [])
 
 some_object : (text : List ℕ) → IsValue text → BeginsWith 123 text → IsSomeObject text

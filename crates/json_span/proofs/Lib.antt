@@ -1,3 +1,7 @@
+pub mod ArrayFirst
+pub mod ArrayParts
+pub mod ArrayPlaces
+pub mod ArrayTheorems
 pub mod Classes
 pub mod Complete
 pub mod Digits

@@ -20,7 +20,7 @@ abbrev pub IsAsciiNext : List ℕ → Type 0
 IsAsciiNext [] = ⊥
 IsAsciiNext (b ∷ bs) = b < 128
 
-next_blanks : (ss : List Space) (rest : List ℕ) → IsAsciiNext rest → IsAsciiNext (blanks ss rest)
+pub next_blanks : (ss : List Space) (rest : List ℕ) → IsAsciiNext rest → IsAsciiNext (blanks ss rest)
 next_blanks [] rest h = h
 next_blanks (json.blank ∷ ss) rest h = lit< tt
 next_blanks (json.tab ∷ ss) rest h = lit< tt
@@ -36,7 +36,7 @@ next_number true w rest = lit< tt
 next_number false nought rest = lit< tt
 next_number false (counted first above others) rest = let small = first.small in omega arith
 
-next_value : (v : Value) (rest : List ℕ) → IsAsciiNext (value_then v rest)
+pub next_value : (v : Value) (rest : List ℕ) → IsAsciiNext (value_then v rest)
 next_value json.null rest = lit< tt
 next_value json.yes rest = lit< tt
 next_value json.no rest = lit< tt
@@ -60,7 +60,7 @@ seam text front (b ∷ rest) e h =
     IsCharBoundary-before_ascii text (length front) (omega arith) small
 
 -- a part of the text, by the places where it begins and ends
-part_at : (text front mid back : List ℕ) (from to : ℕ) → text ≡ front ++ (mid ++ back) → from ≡ length front → to ≡ from + length mid → slice_range text from to ≡ mid
+pub part_at : (text front mid back : List ℕ) (from to : ℕ) → text ≡ front ++ (mid ++ back) → from ≡ length front → to ≡ from + length mid → slice_range text from to ≡ mid
 part_at text front mid back from to e f g =
     let size : to - from ≡ length mid = omega arith in
     ap (λ (n : ℕ). take n (drop from text)) size
@@ -69,7 +69,7 @@ part_at text front mid back from to e f g =
     ∙ ap (λ (l : List ℕ). take (length mid) l) (drop-append_seam front (mid ++ back))
     ∙ take-append_seam mid back
 
-part_utf8 : (text front mid back : List ℕ) (from to : ℕ) → IsUtf8 text → text ≡ front ++ (mid ++ back) → from ≡ length front → to ≡ from + length mid → IsAsciiNext (mid ++ back) → IsAsciiNext back → IsUtf8 (slice_range text from to)
+pub part_utf8 : (text front mid back : List ℕ) (from to : ℕ) → IsUtf8 text → text ≡ front ++ (mid ++ back) → from ≡ length front → to ≡ from + length mid → IsAsciiNext (mid ++ back) → IsAsciiNext back → IsUtf8 (slice_range text from to)
 part_utf8 text front mid back from to u e f g h k =
     let e2 : text ≡ (front ++ mid) ++ back = e ∙ sym (append_assoc front mid back) in
     let start : IsCharBoundary text from = subst (λ (n : ℕ). IsCharBoundary text n) (sym f) (seam text front (mid ++ back) e h) in
@@ -77,7 +77,7 @@ part_utf8 text front mid back from to u e f g h k =
     let end : IsCharBoundary text to = subst (λ (n : ℕ). IsCharBoundary text n) size (seam text (front ++ mid) back e2 k) in
     IsUtf8-between text from to u (omega arith) start end
 
-part_within : (text front mid back : List ℕ) (from to : ℕ) → text ≡ front ++ (mid ++ back) → from ≡ length front → to ≡ from + length mid → IsWithin (length text) record { start = from; end = to }
+pub part_within : (text front mid back : List ℕ) (from to : ℕ) → text ≡ front ++ (mid ++ back) → from ≡ length front → to ≡ from + length mid → IsWithin (length text) record { start = from; end = to }
 part_within text front mid back from to e f g =
     let size : length text ≡ length front + length (mid ++ back) = ap (λ (l : List ℕ). length l) e ∙ length-append front (mid ++ back) in
     let rest : length (mid ++ back) ≡ length mid + length back = length-append mid back in
@@ -150,10 +150,10 @@ module _ (text : List ℕ) (u : IsUtf8 text) (front : List ℕ) (at : ℕ) (is_a
       ∙ sym (length-append (front_value ++ value_text v) (space_text after))
 
 -- a byte and white space further on
-before_key : (text front : List ℕ) (b : ℕ) (before : List Space) (rest : List ℕ) → text ≡ front ++ b ∷ blanks before rest → text ≡ (front ++ b ∷ space_text before) ++ rest
+pub before_key : (text front : List ℕ) (b : ℕ) (before : List Space) (rest : List ℕ) → text ≡ front ++ b ∷ blanks before rest → text ≡ (front ++ b ∷ space_text before) ++ rest
 before_key text front b before rest e = e ∙ ap (λ (l : List ℕ). front ++ b ∷ l) (blanks-is before rest) ∙ sym (append_assoc front (b ∷ space_text before) rest)
 
-key_at : (front : List ℕ) (b : ℕ) (before : List Space) (at : ℕ) → at ≡ length front → at + 1 + length (space_text before) ≡ length (front ++ b ∷ space_text before)
+pub key_at : (front : List ℕ) (b : ℕ) (before : List Space) (at : ℕ) → at ≡ length front → at + 1 + length (space_text before) ≡ length (front ++ b ∷ space_text before)
 key_at front b before at e = let size = length-append front (b ∷ space_text before) in omega arith
 
 all_members : (text : List ℕ) → IsUtf8 text → (members : Members) (front : List ℕ) (from : ℕ) → from ≡ length front → (rest : List ℕ) → text ≡ front ++ members_then members rest → AllByRecursion (IsMemberOf text) (members_from from members)

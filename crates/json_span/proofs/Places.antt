@@ -50,13 +50,13 @@ mutual
       next_depth level d d1 (members_deepened members level d1) (depth v) (members_depth members) e (members_deepened-max members level d1 (omega arith))
 
 -- how long a front and what follows it are
-length-blanks : (ss : List Space) (rest : List ℕ) → length (blanks ss rest) ≡ length (space_text ss) + length rest
+pub length-blanks : (ss : List Space) (rest : List ℕ) → length (blanks ss rest) ≡ length (space_text ss) + length rest
 length-blanks ss rest = ap (λ (l : List ℕ). length l) (blanks-is ss rest) ∙ length-append (space_text ss) rest
 
 length-string_then : (ps : List Piece) (rest : List ℕ) → length (string_then ps rest) ≡ length (string_text ps) + length rest
 length-string_then ps rest = ap (λ (l : List ℕ). length l) (string_then-is ps rest) ∙ length-append (string_text ps) rest
 
-length-value_then : (v : Value) (rest : List ℕ) → length (value_then v rest) ≡ length (value_text v) + length rest
+pub length-value_then : (v : Value) (rest : List ℕ) → length (value_then v rest) ≡ length (value_text v) + length rest
 length-value_then v rest = ap (λ (l : List ℕ). length l) (value_then-is v rest) ∙ length-append (value_text v) rest
 
 member_equal : (a b c d a' b' c' d' : ℕ) → a ≡ a' → b ≡ b' → c ≡ c' → d ≡ d' → ◌≡◌ {A = Member} record { key = record { start = a; end = b }; value = record { start = c; end = d } } record { key = record { start = a'; end = b' }; value = record { start = c'; end = d' } }
@@ -103,7 +103,7 @@ module _ (size at : ℕ) (key : List Piece) (behind ahead : List Space) (v : Val
       ∙ sym (add_assoc (at + length (string_text key) + length (space_text behind) + 1 + length (space_text ahead) + length (value_text v)) (length (space_text after)) (length tail))
 
 -- a key behind a byte and white space
-key_place : (size from a n : ℕ) → size ≡ from + suc a → (before : ℕ) → a ≡ before + n → size ≡ from + 1 + before + n
+pub key_place : (size from a n : ℕ) → size ≡ from + suc a → (before : ℕ) → a ≡ before + n → size ≡ from + 1 + before + n
 key_place size from a n e before f = omega arith
 
 members_cut-members : (members : Members) (size from : ℕ) (c : Cutter) (rest : List ℕ) → size ≡ from + length (members_then members rest) →

@@ -1,9 +1,12 @@
 -- What the loops of the reader keep: the machine on the rest of the text.
 use Rattle.std.proofs.Common.{◌≡◌, ℕ, suc, ◌+◌, ◌-◌, ◌<◌, ◌≤◌, ◌≢◌, ◌⊎◌, inl, inr, List, ◌∷◌, length, get_or, drop, sym, ap, subst, ◌∙◌, arith, add-one, length-drop, drop-cons}
 use Rattle.std.proofs.lemmas.Bool.Decides.{nat_tests}
-use Rattle.json_span.specs.Table.{class_of, plain_move, text_move, number_move, value_move, after_move, table, move_of}
+use Rattle.json_span.specs.Table.{class_of, plain_move, text_move, number_move, value_move, after_move, start_move, table, move_of}
 use Rattle.json_span.specs.Machine.{stepped, moved, run, run_of, IsSkipped}
+use Rattle.json_span.specs.declared.class.Class.{Class}
 use Rattle.json_span.specs.declared.class.Class.TheVariants as class
+use Rattle.json_span.specs.declared.phase.Frame.{Frame}
+use Rattle.json_span.specs.declared.phase.Frame.TheVariants as frame
 use Rattle.json_span.specs.declared.phase.Spot.TheVariants as spot
 use Rattle.json_span.specs.declared.phase.Part.TheVariants as part
 use Rattle.json_span.specs.declared.phase.Phase.{Phase}
@@ -68,8 +71,12 @@ digit_stays b is (phase.Text r spot.Plain) e = cc
 digit_stays b is (phase.Text r _) e = cc
 digit_stays b is _ e = cc
 
+start_stays : (f : Frame) (k : Class) → k ≡ class.Blank → start_move f k ≡ moves.Go (phase.Start f)
+start_stays frame.Array k is = ap (λ t. start_move frame.Array t) is
+start_stays frame.Object k is = ap (λ t. start_move frame.Object t) is
+
 blank_stays : (b : ℕ) → class_of b ≡ class.Blank → (p : Phase) → run_of p ≡ runs.Blanks → move_of p b ≡ moves.Go p
-blank_stays b is phase.Start e = ap (λ k. table phase.Start k) is
+blank_stays b is (phase.Start f) e = start_stays f (class_of b) is
 blank_stays b is phase.FirstKey e = ap (λ k. table phase.FirstKey k) is
 blank_stays b is phase.Key e = ap (λ k. table phase.Key k) is
 blank_stays b is phase.Colon e = ap (λ k. table phase.Colon k) is

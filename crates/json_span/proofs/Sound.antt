@@ -5,6 +5,7 @@ use Rattle.json_scalar.specs.Number.{Whole, nought, counted}
 use Rattle.json_span.specs.Grammar as json
 use Rattle.json_span.specs.Grammar.{Space, space_byte, Value, Items, Members}
 use Rattle.json_span.specs.Members.{IsObjectValue}
+use Rattle.json_span.specs.Elements.{IsArrayValue}
 use Rattle.json_span.specs.Table.{class_of, value_move, table}
 use Rattle.json_span.specs.Machine.{key_begun, key_ended, value_begun, value_ended, phase_behind, moved, run}
 use Rattle.json_span.specs.declared.class.Class.{Class}
@@ -58,6 +59,14 @@ members_cut size k c (json.member before key behind ahead v after members) rest 
 members_cut-inside : (size : ℕ) (f g : Frame) (k : List Frame) (c : Cutter) (members : Members) (rest : List ℕ) → members_cut size (f ∷ g ∷ k) c members rest ≡ c
 members_cut-inside size f g k c json.end_object rest = refl
 members_cut-inside size f g k c (json.member before key behind ahead v after members) rest = members_cut-inside size f g k c members rest
+
+abbrev pub items_cut : ℕ → List Frame → Cutter → Items → List ℕ → Cutter
+items_cut size k c json.end_array rest = c
+items_cut size k c (json.item before v after items) rest = items_cut size k (value_cut size k c (value_then v (blanks after (items_then items rest))) (blanks after (items_then items rest))) items rest
+
+items_cut-inside : (size : ℕ) (f g : Frame) (k : List Frame) (c : Cutter) (items : Items) (rest : List ℕ) → items_cut size (f ∷ g ∷ k) c items rest ≡ c
+items_cut-inside size f g k c json.end_array rest = refl
+items_cut-inside size f g k c (json.item before v after items) rest = items_cut-inside size f g k c items rest
 
 -- what follows a value ends a number
 stops_blanks : (ss : List Space) (rest : List ℕ) → Stops rest → Stops (blanks ss rest)
@@ -159,7 +168,8 @@ mutual
       ∙ first_item size (frame.Array ∷ f ∷ k) d1 c1 value_at (starts_value v (blanks after tail))
       ∙ run-value v size frame.Array (f ∷ k) d1 c1 (blanks after tail) (stops_blanks after tail (stops_items items rest))
       ∙ run-blanks size phase.After waits_after (frame.Array ∷ f ∷ k) (deepened v (suc (length (f ∷ k))) d1) c1 after tail
-      ∙ run-items items size f k (deepened v (suc (length (f ∷ k))) d1) c1 rest
+      ∙ run-items items size (f ∷ k) (deepened v (suc (length (f ∷ k))) d1) c1 rest
+      ∙ ap (λ c'. run size (state phase.After (f ∷ k) (items_deepened items (suc (length (f ∷ k))) (deepened v (suc (length (f ∷ k))) d1)) (value_ended (f ∷ k) c' (size - length rest))) rest) (items_cut-inside size frame.Array f k c1 items rest)
   run-value (json.empty_object ss) size f k d c rest h =
       run-blanks size phase.FirstKey waits_first_key (frame.Object ∷ f ∷ k) (max d (suc (length (f ∷ k)))) (value_begun (f ∷ k) c (size - length (123 ∷ blanks ss (125 ∷ rest)))) ss (125 ∷ rest)
   run-value (json.object before key behind ahead v after members) size f k d c rest h =
@@ -173,17 +183,18 @@ mutual
       ∙ run-members members size (f ∷ k) d2 c1 rest
       ∙ ap (λ c'. run size (state phase.After (f ∷ k) (members_deepened members (suc (length (f ∷ k))) d2) (value_ended (f ∷ k) c' (size - length rest))) rest) (members_cut-inside size frame.Object f k c1 members rest)
 
-  pub run-items : (items : Items) (size : ℕ) (f : Frame) (k : List Frame) (d : ℕ) (c : Cutter) (rest : List ℕ) →
-      run size (state phase.After (frame.Array ∷ f ∷ k) d c) (items_then items rest) ≡ run size (state phase.After (f ∷ k) (items_deepened items (suc (length (f ∷ k))) d) (value_ended (f ∷ k) c (size - length rest))) rest
-  run-items json.end_array size f k d c rest = refl
-  run-items (json.item before v after items) size f k d c rest =
+  pub run-items : (items : Items) (size : ℕ) (k : List Frame) (d : ℕ) (c : Cutter) (rest : List ℕ) →
+      run size (state phase.After (frame.Array ∷ k) d c) (items_then items rest) ≡ run size (state (phase_behind k) k (items_deepened items (suc (length k)) d) (value_ended k (items_cut size (frame.Array ∷ k) c items rest) (size - length rest))) rest
+  run-items json.end_array size k d c rest = refl
+  run-items (json.item before v after items) size k d c rest =
       let tail = items_then items rest in
       let value_at = value_then v (blanks after tail) in
-      let d1 = deepened v (suc (length (f ∷ k))) d in
-      run-blanks size phase.Value waits_value (frame.Array ∷ f ∷ k) d c before value_at
-      ∙ run-value v size frame.Array (f ∷ k) d c (blanks after tail) (stops_blanks after tail (stops_items items rest))
-      ∙ run-blanks size phase.After waits_after (frame.Array ∷ f ∷ k) d1 c after tail
-      ∙ run-items items size f k d1 c rest
+      let d1 = deepened v (suc (length k)) d in
+      let c1 = value_cut size (frame.Array ∷ k) c value_at (blanks after tail) in
+      run-blanks size phase.Value waits_value (frame.Array ∷ k) d c before value_at
+      ∙ run-value v size frame.Array k d c (blanks after tail) (stops_blanks after tail (stops_items items rest))
+      ∙ run-blanks size phase.After waits_after (frame.Array ∷ k) d1 c1 after tail
+      ∙ run-items items size k d1 c1 rest
 
   pub run-members : (members : Members) (size : ℕ) (k : List Frame) (d : ℕ) (c : Cutter) (rest : List ℕ) →
       run size (state phase.After (frame.Object ∷ k) d c) (members_then members rest) ≡ run size (state (phase_behind k) k (members_deepened members (suc (length k)) d) (value_ended k (members_cut size (frame.Object ∷ k) c members rest) (size - length rest))) rest
@@ -202,7 +213,7 @@ object_cut size c (json.object before key behind ahead v after members) rest = m
 object_cut size c _ rest = c
 
 -- the object of the text, without white space around it
-run-object : (v : Value) → IsObjectValue v → (size d : ℕ) (c : Cutter) (rest : List ℕ) → run size (state phase.Start [] d c) (value_then v rest) ≡ run size (state phase.Done [] (deepened v 0 d) (object_cut size c v rest)) rest
+run-object : (v : Value) → IsObjectValue v → (size d : ℕ) (c : Cutter) (rest : List ℕ) → run size (state (phase.Start frame.Object) [] d c) (value_then v rest) ≡ run size (state phase.Done [] (deepened v 0 d) (object_cut size c v rest)) rest
 run-object (json.empty_object ss) is size d c rest =
     run-blanks size phase.FirstKey waits_first_key (frame.Object ∷ []) (max d 1) c ss (125 ∷ rest)
 run-object (json.object before key behind ahead v after members) is size d c rest =
@@ -217,8 +228,39 @@ run-object _ is size d c rest = absurd is
 
 -- the object of the text between white space, before what follows it
 pub run-text : (before : List Space) (v : Value) (after : List Space) → IsObjectValue v → (size d : ℕ) (c : Cutter) (rest : List ℕ) →
-    run size (state phase.Start [] d c) (blanks before (value_then v (blanks after rest))) ≡ run size (state phase.Done [] (deepened v 0 d) (object_cut size c v (blanks after rest))) rest
+    run size (state (phase.Start frame.Object) [] d c) (blanks before (value_then v (blanks after rest))) ≡ run size (state phase.Done [] (deepened v 0 d) (object_cut size c v (blanks after rest))) rest
 run-text before v after is size d c rest =
-    run-blanks size phase.Start waits_start [] d c before (value_then v (blanks after rest))
+    run-blanks size (phase.Start frame.Object) (waits_start frame.Object) [] d c before (value_then v (blanks after rest))
     ∙ run-object v is size d c (blanks after rest)
     ∙ run-blanks size phase.Done waits_done [] (deepened v 0 d) (object_cut size c v (blanks after rest)) after rest
+
+-- what the array of the text makes of the cutter
+abbrev pub array_cut : ℕ → Cutter → Value → List ℕ → Cutter
+array_cut size c (json.array before v after items) rest =
+    items_cut size (frame.Array ∷ []) (value_cut size (frame.Array ∷ []) c (value_then v (blanks after (items_then items rest))) (blanks after (items_then items rest))) items rest
+array_cut size c _ rest = c
+
+-- the array of the text, without white space around it
+run-array : (v : Value) → IsArrayValue v → (size d : ℕ) (c : Cutter) (rest : List ℕ) → run size (state (phase.Start frame.Array) [] d c) (value_then v rest) ≡ run size (state phase.Done [] (deepened v 0 d) (array_cut size c v rest)) rest
+run-array (json.empty_array ss) is size d c rest =
+    run-blanks size phase.FirstItem waits_first_item (frame.Array ∷ []) (max d 1) c ss (93 ∷ rest)
+run-array (json.array before v after items) is size d c rest =
+    let tail = items_then items rest in
+    let value_at = value_then v (blanks after tail) in
+    let d1 = max d 1 in
+    let d2 = deepened v 1 d1 in
+    let c1 = value_cut size (frame.Array ∷ []) c value_at (blanks after tail) in
+    run-blanks size phase.FirstItem waits_first_item (frame.Array ∷ []) d1 c before value_at
+    ∙ first_item size (frame.Array ∷ []) d1 c value_at (starts_value v (blanks after tail))
+    ∙ run-value v size frame.Array [] d1 c (blanks after tail) (stops_blanks after tail (stops_items items rest))
+    ∙ run-blanks size phase.After waits_after (frame.Array ∷ []) d2 c1 after tail
+    ∙ run-items items size [] d2 c1 rest
+run-array _ is size d c rest = absurd is
+
+-- the array of the text between white space, before what follows it
+pub run-array_text : (before : List Space) (v : Value) (after : List Space) → IsArrayValue v → (size d : ℕ) (c : Cutter) (rest : List ℕ) →
+    run size (state (phase.Start frame.Array) [] d c) (blanks before (value_then v (blanks after rest))) ≡ run size (state phase.Done [] (deepened v 0 d) (array_cut size c v (blanks after rest))) rest
+run-array_text before v after is size d c rest =
+    run-blanks size (phase.Start frame.Array) (waits_start frame.Array) [] d c before (value_then v (blanks after rest))
+    ∙ run-array v is size d c (blanks after rest)
+    ∙ run-blanks size phase.Done waits_done [] (deepened v 0 d) (array_cut size c v (blanks after rest)) after rest

@@ -6,12 +6,13 @@ use Rattle.std.proofs.lemmas.Bool.Decides.{nat_tests, leb_tells}
 use Rattle.json_scalar.specs.Text.{Piece, plain, escape, unit, pair, Escape, quotation_mark, backslash, slash, backspace, form_feed, line_feed, carriage_return, tab, escape_letter, is_plain, are_hex, code_unit, is_high_surrogate, is_low_surrogate}
 use Rattle.json_span.specs.Grammar as json
 use Rattle.json_span.specs.Grammar.{Space, space_byte}
-use Rattle.json_span.specs.Table.{class_of, hex_of, hex_valued, plain_move, first_move, second_move, low_first_move, low_second_move, any_move, next_spot, text_move, value_move, after_move, table, move_of}
+use Rattle.json_span.specs.Table.{class_of, hex_of, hex_valued, plain_move, first_move, second_move, low_first_move, low_second_move, any_move, next_spot, text_move, value_move, after_move, start_move, table, move_of}
 use Rattle.json_span.specs.Machine.{moved, run}
 use Rattle.json_span.specs.declared.class.Class.TheVariants as class
 use Rattle.json_span.specs.declared.class.Hex.{Hex}
 use Rattle.json_span.specs.declared.class.Hex.TheVariants as hex
 use Rattle.json_span.specs.declared.phase.Frame.{Frame}
+use Rattle.json_span.specs.declared.phase.Frame.TheVariants as frame
 use Rattle.json_span.specs.declared.phase.Role.{Role}
 use Rattle.json_span.specs.declared.phase.Spot.{Spot}
 use Rattle.json_span.specs.declared.phase.Spot.TheVariants as spot
@@ -42,8 +43,9 @@ class_of-space json.carriage_return = refl
 abbrev pub IsWaiting : Phase → Type 0
 IsWaiting p = (b : ℕ) → class_of b ≡ class.Blank → move_of p b ≡ moves.Go p
 
-pub waits_start : IsWaiting phase.Start
-waits_start b e = ap (λ k. table phase.Start k) e
+pub waits_start : (f : Frame) → IsWaiting (phase.Start f)
+waits_start frame.Array b e = ap (λ k. start_move frame.Array k) e
+waits_start frame.Object b e = ap (λ k. start_move frame.Object k) e
 
 pub waits_first_key : IsWaiting phase.FirstKey
 waits_first_key b e = ap (λ k. table phase.FirstKey k) e

@@ -5,6 +5,7 @@ use Rattle.json_span.specs.Grammar.{Space, space_byte, space_text, Value, value_
 use Rattle.json_span.specs.Members.{IsObject, IsObjectValue, IsNoObject, AreMembers, HasOnlyMembers, IsDeeper, Spells, members_of, NoObjectInFront}
 use Rattle.json_span.specs.Machine.{run, initial, read_whole, IsDone}
 use Rattle.json_span.specs.declared.Member.{Member}
+use Rattle.json_span.specs.declared.phase.Frame.TheVariants as frame
 use Rattle.json_span.specs.declared.phase.Phase.TheVariants as phase
 use Rattle.json_span.specs.declared.machine.Machine.{Machine}
 use Rattle.json_span.proofs.Spelling.{blanks, value_then, text-is}
@@ -26,28 +27,28 @@ pub record HasRead (m : Machine) (deep : ℕ) (members : List Member) : Type 0 w
   pub deepest : m.deepest ≡ deep
   pub places : m.cutter.members ≡ members
 
-has_read : (before : List Space) (v : Value) (after : List Space) → IsObjectValue v → HasRead (read_whole (blanks before (value_then v (blanks after [])))) (depth v) (members_of (length (space_text before)) v)
+has_read : (before : List Space) (v : Value) (after : List Space) → IsObjectValue v → HasRead (read_whole frame.Object (blanks before (value_then v (blanks after [])))) (depth v) (members_of (length (space_text before)) v)
 has_read before v after is =
     let text = blanks before (value_then v (blanks after [])) in
     let size = length text in
-    let final = run-text before v after is size 0 initial.cutter [] in
-    let end = state phase.Done [] (deepened v 0 0) (object_cut size initial.cutter v (blanks after [])) in
+    let final = run-text before v after is size 0 (initial frame.Object).cutter [] in
+    let end = state phase.Done [] (deepened v 0 0) (object_cut size (initial frame.Object).cutter v (blanks after [])) in
     record {
       done = subst (λ (m : Machine). IsDone m.phase) (sym final) tt;
       deepest = ap (λ (m : Machine). m.deepest) final ∙ deepened-max v 0 0 (omega arith) ∙ zero_max (depth v);
-      places = ap (λ (m : Machine). m.cutter.members) final ∙ object_cut-members v is size (length (space_text before)) initial.cutter (blanks after []) (object_place before (value_then v (blanks after [])));
+      places = ap (λ (m : Machine). m.cutter.members) final ∙ object_cut-members v is size (length (space_text before)) (initial frame.Object).cutter (blanks after []) (object_place before (value_then v (blanks after [])));
     }
   where
     zero_max : (n : ℕ) → max 0 (0 + n) ≡ n
     zero_max n = omega arith
 
 -- Whatever object the text is, the machine has read it.
-pub sound : (text : List ℕ) (deep : ℕ) (members : List Member) → IsObject text deep members → HasRead (read_whole text) deep members
+pub sound : (text : List ℕ) (deep : ℕ) (members : List Member) → IsObject text deep members → HasRead (read_whole frame.Object text) deep members
 sound text deep members o =
     let s = o.spells in
     let e = spelled_then text o.before o.value o.after s.spelled in
     let h = has_read o.before o.value o.after s.object in
-    let same : read_whole text ≡ read_whole (blanks o.before (value_then o.value (blanks o.after []))) = ap (λ (t : List ℕ). read_whole t) e in
+    let same : read_whole frame.Object text ≡ read_whole frame.Object (blanks o.before (value_then o.value (blanks o.after []))) = ap (λ (t : List ℕ). read_whole frame.Object t) e in
     record {
       done = subst (λ (m : Machine). IsDone m.phase) (sym same) h.done;
       deepest = ap (λ (m : Machine). m.deepest) same ∙ h.deepest ∙ sym o.deepest;
@@ -55,7 +56,7 @@ sound text deep members o =
     }
 
 -- A text in UTF-8 that the machine has read is an object.
-pub complete : (text : List ℕ) → IsUtf8 text → IsDone (read_whole text).phase → IsObject text (read_whole text).deepest (read_whole text).cutter.members
+pub complete : (text : List ℕ) → IsUtf8 text → IsDone (read_whole frame.Object text).phase → IsObject text (read_whole frame.Object text).deepest (read_whole frame.Object text).cutter.members
 complete text u done =
     let o = is_spelled text (length text) done in
     let e = o.more in
@@ -65,7 +66,7 @@ complete text u done =
     let s = sound text (depth o.value) (members_of (length (space_text o.spaces)) o.value) object in
     record { before = o.spaces; value = o.value; after = e.spaces; spells = spells; deepest = s.deepest; places = s.places }
 
-module _ (text : List ℕ) (m : Machine) (is : m ≡ read_whole text) where
+module _ (text : List ℕ) (m : Machine) (is : m ≡ read_whole frame.Object text) where
   pub read_object : IsUtf8 text → IsDone m.phase → IsObject text m.deepest m.cutter.members
   read_object u done = subst (λ (n : Machine). IsObject text n.deepest n.cutter.members) (sym is) (complete text u (subst (λ (n : Machine). IsDone n.phase) is done))
 
@@ -102,12 +103,12 @@ none_in_front text rest last whole h front =
     let o = front.object in
     let w = whole.object in
     let size = length (text ++ (rest ++ last ∷ [])) in
-    let done : IsDone (read_whole (text ++ (rest ++ last ∷ []))).phase = (sound (text ++ (rest ++ last ∷ [])) whole.deep whole.members w).done in
+    let done : IsDone (read_whole frame.Object (text ++ (rest ++ last ∷ []))).phase = (sound (text ++ (rest ++ last ∷ [])) whole.deep whole.members w).done in
     let split : text ++ (rest ++ last ∷ []) ≡ blanks o.before (value_then o.value (blanks o.after (rest ++ last ∷ []))) =
     ap (λ (t : List ℕ). t ++ (rest ++ last ∷ [])) o.spells.spelled ∙ sym (text-is o.before o.value o.after (rest ++ last ∷ [])) in
-    let end = state phase.Done [] (deepened o.value 0 0) (object_cut size initial.cutter o.value (blanks o.after (rest ++ last ∷ []))) in
-    let same : read_whole (text ++ (rest ++ last ∷ [])) ≡ run size end (rest ++ last ∷ []) =
-    ap (λ (t : List ℕ). run size initial t) split ∙ run-text o.before o.value o.after o.spells.object size 0 initial.cutter (rest ++ last ∷ []) in
+    let end = state phase.Done [] (deepened o.value 0 0) (object_cut size (initial frame.Object).cutter o.value (blanks o.after (rest ++ last ∷ []))) in
+    let same : read_whole frame.Object (text ++ (rest ++ last ∷ [])) ≡ run size end (rest ++ last ∷ []) =
+    ap (λ (t : List ℕ). run size (initial frame.Object) t) split ∙ run-text o.before o.value o.after o.spells.object size 0 (initial frame.Object).cutter (rest ++ last ∷ []) in
     let white = completes (rest ++ last ∷ []) size end (subst (λ (m : Machine). IsDone m.phase) same done) in
     let space = last_space white.spaces rest last white.spelled in
     h space.0 space.1

@@ -5,6 +5,7 @@ use Rattle.json_scalar.specs.Text.{Piece, Escape, escape_letter}
 use Rattle.json_scalar.specs.Number.{Digit, Digits, Whole, Sign, Exponent}
 use Rattle.json_span.specs.Grammar.{Space, space_byte, Value, Items, Members}
 use Rattle.json_span.specs.Members.{IsObjectValue}
+use Rattle.json_span.specs.Elements.{IsArrayValue}
 use Rattle.json_span.specs.Machine.{first_phase}
 use Rattle.json_span.specs.declared.class.Class.{Class}
 use Rattle.json_span.specs.declared.class.Class.TheVariants as class
@@ -54,6 +55,14 @@ pub record ObjectEnd (P : List ℕ → Type 0) (bs : List ℕ) : Type 0 where
   pub spaces : List Space
   pub value : Value
   pub is : IsObjectValue value
+  pub rest : List ℕ
+  pub spelled : bs ≡ blanks spaces (value_then value rest)
+  pub more : P rest
+
+pub record ArrayEnd (P : List ℕ → Type 0) (bs : List ℕ) : Type 0 where
+  pub spaces : List Space
+  pub value : Value
+  pub is : IsArrayValue value
   pub rest : List ℕ
   pub spelled : bs ≡ blanks spaces (value_then value rest)
   pub more : P rest
@@ -252,7 +261,8 @@ TextRoleW role.Key k = ColonEnd (RestW k)
 TextRoleW role.Value k = RestW k
 
 abbrev pub Wants : Phase → List Frame → List ℕ → Type 0
-Wants phase.Start k bs = ObjectEnd (RestW k) bs
+Wants (phase.Start frame.Array) k bs = ArrayEnd (RestW k) bs
+Wants (phase.Start frame.Object) k bs = ObjectEnd (RestW k) bs
 Wants phase.FirstKey k bs = ShutEnd 125 (CloseW frame.Object k) bs ⊎ KeyEnd (RestW k) bs
 Wants phase.Key k bs = KeyEnd (RestW k) bs
 Wants phase.Colon k bs = ColonEnd (RestW k) bs

@@ -1,3 +1,4 @@
+pub mod Elements
 pub mod Grammar
 pub mod Machine
 pub mod Members

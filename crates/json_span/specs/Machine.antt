@@ -1,6 +1,7 @@
--- The reader of an object as a machine over lists: what a byte makes of its state, and what a text makes of it.
+-- The reader of an object or an array as a machine over lists: what a byte makes of its state, and what a text makes of it.
 use Rattle.std.specs.Prelude.{◌≡◌, ℕ, ◌-◌, max, Bool, true, false, List, [], ◌∷◌, ◌++◌, length, if◌then◌else◌}
 use Rattle.json_span.specs.Table.{class_of, move_of, after_move}
+use Rattle.json_span.specs.declared.Span.{Span}
 use Rattle.json_span.specs.declared.Member.{Member}
 use Rattle.json_span.specs.declared.phase.Frame.{Frame}
 use Rattle.json_span.specs.declared.phase.Frame.TheVariants as frame
@@ -18,13 +19,13 @@ use Rattle.json_span.specs.declared.table.Move.TheVariants as moves
 use Rattle.json_span.specs.declared.cutter.Cutter.{Cutter}
 use Rattle.json_span.specs.declared.machine.Machine.{Machine}
 
--- only the object of the text itself is open
+-- only the object or the array of the text itself is open
 abbrev pub is_outermost : List Frame → Bool
 is_outermost [] = false
 is_outermost (f ∷ []) = true
 is_outermost (f ∷ g ∷ frames) = false
 
--- The cutter's part. Places count only where the outermost object is all that is open.
+-- The cutter's part. Places count only where the outermost object or array is all that is open.
 abbrev pub key_begun : List Frame → Cutter → ℕ → Cutter
 key_begun frames c place = if is_outermost frames then record c { key_start = place } else c
 
@@ -34,12 +35,21 @@ key_ended frames c place = if is_outermost frames then record c { key_end = plac
 abbrev pub value_begun : List Frame → Cutter → ℕ → Cutter
 value_begun frames c place = if is_outermost frames then record c { value_start = place } else c
 
--- the member whose value ends at this place
+-- the element that ends at this place, and the member whose value does
+abbrev pub value_ending : Cutter → ℕ → Span
+value_ending c place = record { start = c.value_start; end = place }
+
 abbrev pub ending : Cutter → ℕ → Member
-ending c place = record { key = record { start = c.key_start; end = c.key_end }; value = record { start = c.value_start; end = place } }
+ending c place = record { key = record { start = c.key_start; end = c.key_end }; value = value_ending c place }
+
+-- an array keeps the element, an object the member
+abbrev pub ended_in : List Frame → Cutter → ℕ → Cutter
+ended_in [] c place = c
+ended_in (frame.Array ∷ frames) c place = record c { elements = c.elements ++ value_ending c place ∷ [] }
+ended_in (frame.Object ∷ frames) c place = record c { members = c.members ++ ending c place ∷ [] }
 
 abbrev pub value_ended : List Frame → Cutter → ℕ → Cutter
-value_ended frames c place = if is_outermost frames then record c { members = c.members ++ ending c place ∷ [] } else c
+value_ended frames c place = if is_outermost frames then ended_in frames c place else c
 
 abbrev pub broken : Machine → Machine
 broken m = record m { phase = phase.Broken }
@@ -120,12 +130,13 @@ abbrev pub run : ℕ → Machine → List ℕ → Machine
 run size m [] = m
 run size m (b ∷ bs) = run size (stepped m b (size - length (b ∷ bs)) (size - length bs)) bs
 
-abbrev pub initial : Machine
-initial = record { phase = phase.Start; frames = []; deepest = 0; cutter = record { key_start = 0; key_end = 0; value_start = 0; members = [] } }
+-- before the text of an array, or of an object
+abbrev pub initial : Frame → Machine
+initial f = record { phase = phase.Start f; frames = []; deepest = 0; cutter = record { key_start = 0; key_end = 0; value_start = 0; members = []; elements = [] } }
 
 -- what the whole text makes of the machine
-abbrev pub read_whole : List ℕ → Machine
-read_whole text = run (length text) initial text
+abbrev pub read_whole : Frame → List ℕ → Machine
+read_whole f text = run (length text) (initial f) text
 
 -- the text is read to its end
 abbrev pub IsDone : Phase → Type 0

@@ -1,10 +1,11 @@
--- What a byte does to the reader of an object, by what is waited for.
+-- What a byte does to the reader of an object or an array, by what is waited for.
 use Rattle.std.specs.Prelude.{ℕ, ◌&&◌, ◌==◌, nat_lt, nat_le, if◌then◌else◌}
 use Rattle.std.specs.Char.{digit_value, is_digit}
 use Rattle.json_span.specs.declared.class.Class.{Class}
 use Rattle.json_span.specs.declared.class.Class.TheVariants as class
 use Rattle.json_span.specs.declared.class.Hex.{Hex}
 use Rattle.json_span.specs.declared.class.Hex.TheVariants as hex
+use Rattle.json_span.specs.declared.phase.Frame.{Frame}
 use Rattle.json_span.specs.declared.phase.Frame.TheVariants as frame
 use Rattle.json_span.specs.declared.phase.Role.{Role}
 use Rattle.json_span.specs.declared.phase.Role.TheVariants as role
@@ -210,10 +211,16 @@ after_move class.ArrayEnd = moves.Close frame.Array
 after_move class.ObjectEnd = moves.Close frame.Object
 after_move _ = moves.Go phase.Broken
 
+-- where the text's own array or object is wanted
+abbrev pub start_move : Frame → Class → Move
+start_move f class.Blank = moves.Go (phase.Start f)
+start_move frame.Array class.ArrayStart = moves.Open frame.Array
+start_move frame.Object class.ObjectStart = moves.Open frame.Object
+start_move frame.Array _ = moves.Go phase.Broken
+start_move frame.Object _ = moves.Go phase.Broken
+
 abbrev pub table : Phase → Class → Move
-table phase.Start class.Blank = moves.Go phase.Start
-table phase.Start class.ObjectStart = moves.Open frame.Object
-table phase.Start _ = moves.Go phase.Broken
+table (phase.Start f) c = start_move f c
 table phase.FirstKey class.Blank = moves.Go phase.FirstKey
 table phase.FirstKey class.Quote = moves.BeginKey
 table phase.FirstKey class.ObjectEnd = moves.Close frame.Object
@@ -237,7 +244,7 @@ table (phase.Word l) c = moves.Go phase.Broken
 table phase.Broken c = moves.Go phase.Broken
 
 abbrev pub move_of : Phase → ℕ → Move
-move_of phase.Start b = table phase.Start (class_of b)
+move_of (phase.Start f) b = start_move f (class_of b)
 move_of phase.FirstKey b = table phase.FirstKey (class_of b)
 move_of phase.Key b = table phase.Key (class_of b)
 move_of phase.Colon b = table phase.Colon (class_of b)

@@ -4,17 +4,17 @@ ghost use Rattle.json_span.specs.Members.{AreMembers, IsNoObject, IsDeeper, HasO
 ghost use Rattle.json_span.specs.Machine.{read_whole};
 
 use crate::machine::Machine;
-use crate::phase::{is_done, run_at};
+use crate::phase::{Frame, is_done, run_at};
 use crate::skip::skip;
 use crate::{MAX_DEPTH, MemberList, SpanFault};
 use outside::NoMemory;
 use std::alloc::Global;
 
-/// What the machine makes of the whole text.
-fn read(alloc: Global, text: &[u8]) -> Result<Machine, NoMemory>
-    ensures { IfOk result (λ machine. machine ≡ read_whole text.now) }
+/// What the machine makes of the whole text, where it wants an array or an object.
+pub fn read(alloc: Global, text: &[u8], frame: Frame) -> Result<Machine, NoMemory>
+    ensures { IfOk result (λ machine. machine ≡ read_whole frame text.now) }
 {
-    let mut machine = Machine::new(alloc);
+    let mut machine = Machine::new(alloc, frame);
     let mut at = 0;
     while at < text.len() {
         machine.step(text[at], at as u64)?;
@@ -31,18 +31,20 @@ pub fn members_within(alloc: Global, text: &[u8], limit: usize) -> Result<Member
     ensures parts { IfOk result (All (IsMemberOf text.now)) }
     ensures not_object { IsErrOf result SpanFault.NotObject → IsNoObject text.now }
     ensures too_deep { IsErrOf result SpanFault.TooDeep → IsDeeper limit text.now }
+    ensures never_not_array { ¬ IsErrOf result SpanFault.NotArray }
 {
     if !simdutf8::is_utf8(text) {
         return Err(SpanFault::NotObject);
     }
-    let machine = read(alloc, text)?;
+    let machine = read(alloc, text, Frame::Object)?;
     if !is_done(machine.phase) {
         return Err(SpanFault::NotObject);
     }
     if machine.deepest > limit {
         return Err(SpanFault::TooDeep);
     }
-    Ok(machine.cutter.members)
+    let cutter = machine.cutter;
+    Ok(cutter.members)
 }
 
 /// Cuts an object that nests at most 127 deep into its members, with names that stand twice.
@@ -52,6 +54,7 @@ pub fn members(alloc: Global, text: &[u8]) -> Result<MemberList, SpanFault>
     ensures parts { IfOk result (All (IsMemberOf text.now)) }
     ensures not_object { IsErrOf result SpanFault.NotObject → IsNoObject text.now }
     ensures too_deep { IsErrOf result SpanFault.TooDeep → IsDeeper MAX_DEPTH text.now }
+    ensures never_not_array { ¬ IsErrOf result SpanFault.NotArray }
 {
     members_within(alloc, text, MAX_DEPTH)
 }

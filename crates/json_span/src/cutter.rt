@@ -1,20 +1,22 @@
-// The members that have been cut so far, and the places of the one that is being read.
+// What has been cut so far of the object or the array, and the places of the member or the element that is being read.
 use crate::frames::Frames;
-use crate::{Member, MemberList, Span};
+use crate::phase::Frame;
+use crate::{Member, MemberList, Span, SpanList};
 use outside::{NoMemory, Sequence};
 
-/// The members so far, and the places of the next.
+/// The members or the elements so far, and the places of the next.
 #[derive(Drop)]
 pub struct Cutter {
     pub key_start: u64,
     pub key_end: u64,
     pub value_start: u64,
     pub members: MemberList,
+    pub elements: SpanList,
 }
 
 impl Cutter {
     ghost use Rattle.std.specs.Prelude.{◌≡◌, OnOk};
-    ghost use Rattle.json_span.specs.Machine.{key_begun, key_ended, value_begun, value_ended};
+    ghost use Rattle.json_span.specs.Machine.{key_begun, key_ended, value_begun, ended_in, value_ended};
 
     /// A key begins here.
     #[inline(always)]
@@ -46,22 +48,35 @@ impl Cutter {
         }
     }
 
-    /// A value ends before this place, and a member with it.
+    /// A value ends before this place, and a member or an element with it.
     #[inline(always)]
     pub fn end_value(&mut self, frames: &Frames, place: u64) -> Result<(), NoMemory>
         ensures { OnOk result (self.new ≡ value_ended frames.now self.old place) }
     {
         if frames.is_outermost() {
-            self.members.push(Member {
+            self.keep(frames, place)?;
+        }
+        Ok(())
+    }
+
+    /// Keeps the member or the element whose value ends before this place.
+    fn keep(&mut self, frames: &Frames, place: u64) -> Result<(), NoMemory>
+        ensures { OnOk result (self.new ≡ ended_in frames.now self.old place) }
+    {
+        let value = Span {
+            start: self.value_start,
+            end: place,
+        };
+        match frames.innermost() {
+            Some(Frame::Array) => self.elements.push(value)?,
+            Some(Frame::Object) => self.members.push(Member {
                 key: Span {
                     start: self.key_start,
                     end: self.key_end,
                 },
-                value: Span {
-                    start: self.value_start,
-                    end: place,
-                },
-            })?;
+                value,
+            })?,
+            None => (),
         }
         Ok(())
     }

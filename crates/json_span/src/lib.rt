@@ -1,4 +1,4 @@
-//! Cuts JSON texts (RFC 8259) without copying: the places of an object's members.
+//! Cuts JSON texts (RFC 8259) without copying: the places of an object's members, and of an array's elements.
 #![tactic(auto)]
 
 pub use json_scalar::{is_string_of, quote, text_of, whole_of};
@@ -39,12 +39,17 @@ pub struct Member {
 /// The members of an object, in the order of the text.
 pub type MemberList = Sequence<Member>;
 
+/// The places of an array's elements, in the order of the text. White space around them is left out.
+pub type SpanList = Sequence<Span>;
+
 /// Why a text was not cut.
 #[derive(Clone, Copy, Debug, PartialEq, Eq)]
 pub enum SpanFault {
     /// It is no JSON object, or not UTF-8.
     NotObject,
-    /// It is a JSON object that nests too deep.
+    /// It is no JSON array, or not UTF-8.
+    NotArray,
+    /// It is a JSON object, or a JSON array, that nests too deep.
     TooDeep,
     NoMemory,
 }
@@ -61,6 +66,7 @@ impl From<NoMemory> for SpanFault {
     }
 }
 
+mod array;
 mod class;
 mod cut;
 mod cutter;
@@ -70,4 +76,5 @@ mod phase;
 mod skip;
 mod table;
 
+pub use array::{elements, elements_within, is_array};
 pub use cut::{is_object, members, members_within, no_object_in_front};

@@ -1,4 +1,4 @@
-// The machine that reads an object byte by byte, with what is open on a stack of its own.
+// The machine that reads an object or an array byte by byte, with what is open on a stack of its own.
 use crate::class::classify;
 use crate::cutter::Cutter;
 use crate::frames::Frames;
@@ -20,12 +20,12 @@ impl Machine {
     ghost use Rattle.std.specs.Prelude.{◌≡◌, ◌+◌, ◌<◌, ◌^◌, OnOk, length};
     ghost use Rattle.json_span.specs.Machine.{initial, opened, closed, made, moved, stepped};
 
-    /// Nothing has been read.
-    pub fn new(alloc: Global) -> Self
-        ensures { result ≡ initial }
+    /// Nothing has been read of an array, or of an object.
+    pub fn new(alloc: Global, frame: Frame) -> Self
+        ensures { result ≡ initial frame }
     {
         Machine {
-            phase: Phase::Start,
+            phase: Phase::Start(frame),
             frames: Frames::new(alloc),
             deepest: 0,
             cutter: Cutter {
@@ -33,6 +33,7 @@ impl Machine {
                 key_end: 0,
                 value_start: 0,
                 members: Sequence::new(alloc),
+                elements: Sequence::new(alloc),
             },
         }
     }

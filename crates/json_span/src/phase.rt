@@ -1,4 +1,4 @@
-// What the reader of an object waits for.
+// What the reader of an object or an array waits for.
 ghost use Rattle.std.specs.Prelude.{◌≡◌, ◌↔◌, IsTrue};
 ghost use Rattle.json_span.specs.Machine.{text_run, number_run, run_of, IsDone};
 
@@ -78,8 +78,8 @@ pub enum Letter {
 /// What is waited for.
 #[derive(Clone, Copy)]
 pub enum Phase {
-    /// The object.
-    Start,
+    /// The object, or the array.
+    Start(Frame),
     /// The first key of an object, or its end.
     FirstKey,
     /// A key, behind a comma.
@@ -92,7 +92,7 @@ pub enum Phase {
     Value,
     /// A comma or a bracket, behind a value.
     After,
-    /// Nothing but white space, behind the object.
+    /// Nothing but white space, behind the object or the array.
     Done,
     /// More of a string.
     Text(Role, Spot),
@@ -100,7 +100,7 @@ pub enum Phase {
     Number(Part),
     /// More of a word.
     Word(Letter),
-    /// Nothing: the text is no object.
+    /// Nothing: the text is not what was wanted.
     Broken,
 }
 
@@ -149,7 +149,7 @@ fn run_in_number(part: Part) -> Run
     }
 }
 
-/// Whether the object has been read to its end.
+/// Whether the object or the array has been read to its end.
 pub fn is_done(phase: Phase) -> bool
     ensures { IsTrue result ↔ IsDone phase }
 {

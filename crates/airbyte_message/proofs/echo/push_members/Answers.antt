@@ -1,7 +1,8 @@
 use Rattle.std.proofs.Common.{◌≡◌, ◌<◌, ◌+◌, List, ℕ, ◌++◌, length, take, sym, subst, ◌∙◌, slice_index_or}
 use Rattle.json_span.specs.declared.Member.{Member}
+use Rattle.airbyte_message.proofs.AnswerLemmas.{true_false}
+use Rattle.airbyte_message.proofs.EchoLemmas.{pushes_dropped, pushes_kept}
 use Rattle.airbyte_message.specs.Echo.{PushesKept, member_text}
-use Rattle.airbyte_message.proofs.MessageLemmas.{true_false, pushes_dropped, pushes_kept}
 use Rattle.airbyte_message.proofs.echo.push_members.Goals as goal
 use Rattle.airbyte_message.proofs.echo.push_members.Goals.{then-not-branch+in_ok-push_member, else-not-branch}
 

@@ -11,7 +11,7 @@ use Rattle.json_span.proofs.table.move_at.Goals as goal
 by_class : (p : Phase) (b : ℕ) → ((r : Role) (s : Spot) → p ≡ phase.Text r s → ⊥) → ((l : Letter) → p ≡ phase.Word l → ⊥) → table p (class_of b) ≡ move_of p b
 by_class (phase.Text r s) b h k = absurd (h r s refl)
 by_class (phase.Word l) b h k = absurd (k l refl)
-by_class phase.Start b h k = refl
+by_class (phase.Start f) b h k = refl
 by_class phase.FirstKey b h k = refl
 by_class phase.Key b h k = refl
 by_class phase.Colon b h k = refl

@@ -1,0 +1,18 @@
+use Rattle.std.proofs.Common.{ap, sym, codes}
+use Rattle.std.specs.Option.{option_copied}
+use Rattle.json_fields.specs.Fields.{line_depth}
+use Rattle.airbyte_message.specs.Parts.{HasArray}
+use Rattle.airbyte_message.proofs.AnswerLemmas.{along, along_only, uncut}
+use Rattle.airbyte_message.proofs.MessageLemmas.{catalog_answer, catalog_uncut, catalog_absent}
+use Rattle.airbyte_message.proofs.catalog_message.catalog_of.Goals as goal
+
+pub returns-in_default : goal.returns-in_default
+returns-in_default c = catalog_uncut c.args.text.now (uncut line_depth c.args.text.now c.in_ok-members.field-0 c.in_default.is c.in_ok-members.ensures.none)
+
+pub returns-in-Some-2 : goal.returns-in-Some-2
+returns-in-Some-2 c =
+    let text = c.args.text.now in
+    catalog_answer text c.in_ok-copy_of-in-Some-2.field-0 (along_only (HasArray text (codes "streams")) (sym c.in_ok-copy_of-in-Some-2.ensures) (along (HasArray text (codes "streams")) (ap option_copied c.in-Some-2.is) c.in_ok-list.ensures))
+
+pub returns : goal.returns
+returns c = catalog_absent c.args.text.now (along (HasArray c.args.text.now (codes "streams")) (ap option_copied c.in-None.is) c.in_ok-list.ensures)

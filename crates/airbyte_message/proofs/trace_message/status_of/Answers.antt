@@ -1,0 +1,13 @@
+use Rattle.std.proofs.Common.{codes}
+use Rattle.json_fields.specs.Fields.{HasText}
+use Rattle.airbyte_message.specs.Words.{status_text}
+use Rattle.airbyte_message.proofs.AnswerLemmas.{along, word_text, word_absent}
+use Rattle.airbyte_message.proofs.trace_message.status_of.Goals as goal
+
+pub returns-in-Some : goal.returns-in-Some
+returns-in-Some c =
+    word_text status_text c.args.text.now (codes "status") c.in-Some.name c.as_str.result.now c.of.result (along (HasText c.args.text.now (codes "status")) c.in-Some.is c.in_ok-name.ensures) c.as_str.ensures c.of.ensures
+
+pub returns-in-None : goal.returns-in-None
+returns-in-None c =
+    word_absent status_text c.args.text.now (codes "status") (along (HasText c.args.text.now (codes "status")) c.in-None.is c.in_ok-name.ensures)

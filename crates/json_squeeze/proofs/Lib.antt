@@ -1,0 +1,5 @@
+pub mod Bytes
+pub mod Runs
+pub mod Trees
+pub mod Twice
+pub mod Utf8
