@@ -1,10 +1,10 @@
 -- What a search of the bytes from a place on finds, by places.
-use Rattle.std.proofs.Common.{◌≡◌, ℕ, suc, ◌+◌, ◌-◌, ◌<◌, ◌≤◌, List, [], ◌∷◌, ◌++◌, length, take, drop, get_or, slice_range, Bool, true, false, cond, All, sym, ap, subst, ◌∙◌, inl, inr, arith, add-one, length-append, length-drop, append-nil, append_assoc}
+use Rattle.std.proofs.Common.{◌≡◌, ℕ, suc, ◌+◌, ◌-◌, ◌<◌, ◌≤◌, List, [], ◌∷◌, ◌++◌, length, drop, get_or, slice_range, Bool, true, false, cond, All, sym, ap, subst, ◌∙◌, inl, inr, arith, add-one, length-append, length-drop, append-nil, append_assoc}
 use Rattle.std.specs.Prelude.{nat_lt}
 use Rattle.std.proofs.Math.Nat.{eq-or-lt_of_le}
 use Rattle.std.proofs.Math.Seq.{drop-cons, drop-length}
 use Rattle.std.proofs.lemmas.Bool.Decides.{nat_tests}
-use Rattle.std.proofs.lemmas.List.{drop-drop, drop-append-le, take-append-le, append_cancel_right}
+use Rattle.std.proofs.lemmas.List.{drop-drop, append_cancel_right}
 use Rattle.std.proofs.lemmas.List.Elements.{All-append, All-from_recursion}
 use Rattle.std.proofs.lemmas.List.Folds.{drop_split}
 use Rattle.text_lines.specs.Lines.{is_newline, is_line, pieces_of}
@@ -53,27 +53,6 @@ searched_more bytes start searched end s h k none =
 -- nothing has been searched from here on
 pub searched_none : (bytes : List ℕ) (at : ℕ) → at ≤ length bytes → IsSearched bytes at at
 searched_none bytes at h = record { ordered = omega arith; inside = h; none = subst (λ (l : List ℕ). All (λ byte. is_newline byte ≡ false) l) (sym (range_none bytes at)) (All-from_recursion (λ byte. is_newline byte ≡ false) [] tt) }
-
--- more bytes behind
-pub searched_fed : (bytes chunk : List ℕ) (start searched : ℕ) → IsSearched bytes start searched → IsSearched (bytes ++ chunk) start searched
-searched_fed bytes chunk start searched s =
-    let ordered = s.ordered in
-    let inside = s.inside in
-    let left : length (drop start bytes) ≡ length bytes - start = length-drop start bytes in
-    let whole : length (bytes ++ chunk) ≡ length bytes + length chunk = length-append bytes chunk in
-    let same : slice_range (bytes ++ chunk) start searched ≡ slice_range bytes start searched =
-    ap (λ (l : List ℕ). take (searched - start) l) (drop-append-le start bytes chunk (omega arith)) ∙ take-append-le (searched - start) (drop start bytes) chunk (omega arith) in
-    record { ordered = ordered; inside = omega arith; none = subst (λ (l : List ℕ). All (λ byte. is_newline byte ≡ false) l) (sym same) s.none }
-
--- what was given is dropped from the front
-pub searched_dropped : (bytes : List ℕ) (start searched : ℕ) → IsSearched bytes start searched → IsSearched (drop start bytes) 0 (searched - start)
-searched_dropped bytes start searched s =
-    let ordered = s.ordered in
-    let inside = s.inside in
-    let left : length (drop start bytes) ≡ length bytes - start = length-drop start bytes in
-    let size : searched - start - 0 ≡ searched - start = omega arith in
-    let same : slice_range (drop start bytes) 0 (searched - start) ≡ slice_range bytes start searched = ap (λ (n : ℕ). take n (drop start bytes)) size in
-    record { ordered = omega arith; inside = omega arith; none = subst (λ (l : List ℕ). All (λ byte. is_newline byte ≡ false) l) (sym same) s.none }
 
 -- the piece that has been searched to its end
 module _ (limit : ℕ) (bytes : List ℕ) (start end : ℕ) (s : IsSearched bytes start end) where
