@@ -1,16 +1,16 @@
 -- What squeezing does to the spelling of a tree.
-use Rattle.std.proofs.Common.{◌≡◌, ℕ, suc, ◌+◌, max, List, [], ◌∷◌, ◌++◌, Bool, true, false, not, ◌&&◌, Option, Some, None, refl, sym, ap, subst, ◌∙◌, arith, append_assoc, append-nil}
-use Rattle.std.specs.Prelude.{flat_map, ◌==◌, IsTrue, IsUtf8, if◌then◌else◌}
+use Rattle.std.proofs.Common.{◌≡◌, ℕ, suc, ◌+◌, max, List, [], ◌∷◌, ◌++◌, Bool, true, false, not, ◌&&◌, Option, Some, None, refl, sym, ap, ◌∙◌, arith, append_assoc, append-nil}
+use Rattle.std.specs.Prelude.{flat_map, ◌==◌, if◌then◌else◌}
 use Rattle.std.specs.Char.{is_digit}
 use Rattle.std.proofs.lemmas.Bool.Decides.{nat_tests}
 use Rattle.json_scalar.specs.Text.{Piece, plain, escape, unit, pair, quotation_mark, backslash, slash, backspace, form_feed, line_feed, carriage_return, tab, is_plain, are_hex, code_unit, is_high_surrogate, is_low_surrogate, unit_text, piece_text, string_text}
 use Rattle.json_scalar.specs.Number.{Digit, Sign, unsigned, plus, minus, Exponent, Digits, Literal, digits_text, whole_digits, all_digits, sign_text, fraction_text, exponent_text, literal_text}
 use Rattle.json_span.specs.Grammar as json
 use Rattle.json_span.specs.Grammar.{Space, space_text, Value, Items, Members, value_text, items_text, members_text, depth, items_depth, members_depth}
-use Rattle.json_span.specs.Members.{IsObjectValue, IsValue}
+use Rattle.json_span.specs.Members.{IsObjectValue}
 use Rattle.json_span.specs.Elements.{IsArrayValue}
 use Rattle.json_squeeze.specs.Squeeze.{is_space, squeezed, in_string}
-use Rattle.json_squeeze.specs.Dense.{dense, dense_items, dense_members, dense_text, IsSpelling, IsSqueezedValue, SqueezesValues, SqueezesAlike}
+use Rattle.json_squeeze.specs.Dense.{dense, dense_items, dense_members, dense_text, IsSpelling, SqueezesValues, SqueezesAlike}
 use Rattle.json_squeeze.proofs.Bytes.{equal, squeezed-shown, in_string-plain}
 use Rattle.json_squeeze.proofs.Utf8.{squeezed-utf8}
 
