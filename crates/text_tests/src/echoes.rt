@@ -1,15 +1,17 @@
 // The lines by which states are sent back.
-use airbyte_message::{Message, echo_of, read_message};
+use airbyte_message::{Message, StateKind, echo_of, read_message};
 use outside::{Bytes, NoMemory};
 use std::alloc::Global;
 use std::test::Fail;
 
 // The echo of the state that a line is.
 fn echo_of_line(alloc: Global, line: &str, count: u64) -> Result<Option<Bytes>, NoMemory> {
-    match read_message(alloc, line.as_bytes())? {
-        Some(Message::State(state)) => Ok(Some(echo_of(alloc, &state, count)?)),
-        Some(Message::Rec(_content)) => Ok(None),
-        None => Ok(None),
+    let Some(Message::State(state)) = read_message(alloc, line.as_bytes())? else {
+        return Ok(None);
+    };
+    match state.kind {
+        StateKind::Legacy => Ok(None),
+        _ => Ok(Some(echo_of(alloc, &state, count)?)),
     }
 }
 

@@ -6,6 +6,8 @@ mod echoes;
 #[cfg(test)]
 mod fields;
 #[cfg(test)]
+mod kinds;
+#[cfg(test)]
 mod lines;
 #[cfg(test)]
 mod numbers;
@@ -13,6 +15,8 @@ mod numbers;
 mod objects;
 #[cfg(test)]
 mod outsides;
+#[cfg(test)]
+mod pieces;
 #[cfg(test)]
 mod records;
 #[cfg(test)]

@@ -8,8 +8,7 @@ use std::test::Fail;
 fn record_of(alloc: Global, line: &str) -> Result<Option<RecordMsg>, NoMemory> {
     match read_message(alloc, line.as_bytes())? {
         Some(Message::Rec(content)) => Ok(Some(content)),
-        Some(Message::State(_state)) => Ok(None),
-        None => Ok(None),
+        _ => Ok(None),
     }
 }
 
@@ -98,7 +97,7 @@ fn other_lines_are_no_messages(rt: HostRuntime) -> Result<(), Fail> {
         "{}",
         "[]",
         "some words",
-        r#"{"type":"LOG","log":{"level":"INFO","message":"hello"}}"#,
+        r#"{"type":"LOG","log":{"level":"info","message":"hello"}}"#,
         r#"{"type":"TRACE","trace":{"type":"STREAM_STATUS","emitted_at":1}}"#,
         r#"{"type":"record","record":{"stream":"a","data":{},"emitted_at":1}}"#,
         r#"{"type":"RECORD "}"#,

@@ -8,8 +8,7 @@ use std::test::Fail;
 fn state_of(alloc: Global, line: &str) -> Result<Option<StateMsg>, NoMemory> {
     match read_message(alloc, line.as_bytes())? {
         Some(Message::State(state)) => Ok(Some(state)),
-        Some(Message::Rec(_content)) => Ok(None),
-        None => Ok(None),
+        _ => Ok(None),
     }
 }
 
@@ -66,7 +65,10 @@ fn states_hold_their_members(rt: HostRuntime) -> Result<(), Fail> {
         ),
     ] {
         let state = state_of(rt.alloc(), line)?.ok_or("no state")?;
-        let StateKind::Stream { id, blob: found } = &state.kind;
+        let StateKind::Stream { id, blob: found } = &state.kind else {
+            assert!(rt; false, "in {line}");
+            return Ok(());
+        };
         assert_eq!(rt; state.object.as_slice(), object.as_bytes(), "in {line}");
         assert_eq!(rt; id.name.as_str(), stream, "in {line}");
         assert_eq!(rt;
@@ -90,12 +92,7 @@ fn other_states_are_no_messages(rt: HostRuntime) -> Result<(), Fail> {
         r#"{"type":"STATE"}"#,
         r#"{"type":"STATE","state":null}"#,
         r#"{"type":"STATE","state":[]}"#,
-        r#"{"type":"STATE","state":{"data":{"cursor":1}}}"#,
-        r#"{"type":"STATE","state":{"stream":{"stream_descriptor":{"name":"a"}}}}"#,
-        r#"{"type":"STATE","state":{"type":"LEGACY","data":{"cursor":1}}}"#,
-        r#"{"type":"STATE","state":{"type":"GLOBAL","global":{"shared_state":{},"stream_states":[]}}}"#,
         r#"{"type":"STATE","state":{"type":"GLOBAL","stream":{"stream_descriptor":{"name":"a"}}}}"#,
-        r#"{"type":"STATE","state":{"type":"STREAM","type":null,"stream":{"stream_descriptor":{"name":"a"}}}}"#,
         r#"{"type":"STATE","state":{"type":"stream","stream":{"stream_descriptor":{"name":"a"}}}}"#,
         r#"{"type":"STATE","state":{"type":"STREAM"}}"#,
         r#"{"type":"STATE","state":{"type":"STREAM","stream":null}}"#,

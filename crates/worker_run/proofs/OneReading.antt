@@ -1,52 +1,104 @@
 -- A text is read to one end, and says one output: two readings of it agree.
 use Rattle.std.proofs.Common.{◌≡◌, ◌⊎◌, inl, inr, ℕ, ◌+◌, ◌<◌, ◌≤◌, List, [], ◌∷◌, ◌++◌, map, length, Option, None, Some, IfSome, refl, sym, ◌∙◌, ap, subst, arith, append_assoc}
 use Rattle.std.proofs.lemmas.List.{append-nil}
-use Rattle.std.proofs.lemmas.Grind.{flat_map-append}
 use Rattle.outside.specs.Told.{told_more}
 use Rattle.outside.specs.declared.status.Status.{Status}
 use Rattle.outside.specs.declared.status.Status.TheVariants as status
 use Rattle.outside.specs.Desk.{Texts}
-use Rattle.json_fields.specs.Answer.{IsOnly}
+use Rattle.json_fields.specs.Answer.{IsAnswer, IsOnly}
 use Rattle.text_lines.specs.Lines.{lines_of}
 use Rattle.airbyte_message.specs.Messages.{IsMessage}
 use Rattle.airbyte_message.specs.declared.message.Message.{Message}
 use Rattle.airbyte_message.specs.declared.message.Message.TheVariants as message
 use Rattle.worker_run.specs.Catalog.{IsCatalog}
 use Rattle.worker_run.specs.Words.{TextNames}
-use Rattle.worker_run.specs.Rounds.{Round, record_round, state_round, round_line, round_message, messages_of, Counted, none_counted, counted_after, counted_through, Fits, AreRounds, IsTaken, IsUnbuilt}
+use Rattle.worker_run.specs.Rounds.{Heard, Round, record_round, state_round, other_round, round_line, round_found, heard_of, heard_in, Counted, none_counted, counted_after, counted_through, Fits, AreRounds, IsPassedOver, IsTaken, IsUnbuilt, longest_line}
 use Rattle.worker_run.specs.World.{World, begun}
-use Rattle.worker_run.specs.Output.{said_of, said_lines, end_lines, row_lines, attempt_lines, usage_line, status_line}
+use Rattle.worker_run.specs.Output.{said_lines, end_lines, row_lines, attempt_lines, usage_line, status_line}
+use Rattle.worker_run.proofs.ReadingLemmas.{said_append}
 use Rattle.worker_run.specs.Reading.{EndsBehind, ReadsTo, IsAttempt, IsFront, StopsShort, HasTextNamed, RefusesCatalog, RunsAttempt, ComesTo, WouldSay, IsFrontOfBody, IsFrontOfAll, ReadsSome}
 
--- what makes a line fit a round
-abbrev pub FitsAs : List ℕ → Counted → List ℕ → Message → Type 0
-FitsAs stream counted line m = (length line ≤ 20971520) × IsOnly (IsMessage line) m × IsTaken stream counted.since m
+-- a line has one answer
+answer_only : (line : List ℕ) (a b : Option Message) → IsAnswer (IsMessage line) a → IsAnswer (IsMessage line) b → a ≡ b
+answer_only line None None p q = refl
+answer_only line None (Some m) p q = absurd (p m q.is)
+answer_only line (Some m) None p q = absurd (q m p.is)
+answer_only line (Some m) (Some n) p q = ap (λ (x : Message). Some x) (q.only m p.is)
 
-fits_as : (stream : List ℕ) (counted : Counted) (round : Round) → Fits stream counted round → FitsAs stream counted (round_line round) (round_message round)
-fits_as stream counted (record_round line content) fits = (fits.short, fits.message, fits.taken)
-fits_as stream counted (state_round line state echo) fits = (fits.short, fits.message, fits.taken)
+-- what makes a line fit a round
+pub record FitsAs (stream : List ℕ) (counted : Counted) (line : List ℕ) (found : Option Message) : Type 0 where
+  pub short : length line ≤ longest_line
+  pub answer : IsAnswer (IsMessage line) found
+  pub taken : IsTaken stream counted.since found
+
+passed_taken : (stream : List ℕ) (since : ℕ) (found : Option Message) → IsPassedOver found → IsTaken stream since found
+passed_taken stream since None passed = tt
+passed_taken stream since (Some (message.Rec content)) passed = absurd passed
+passed_taken stream since (Some (message.State state)) passed = absurd passed
+passed_taken stream since (Some (message.Log log)) passed = tt
+passed_taken stream since (Some (message.Spec spec)) passed = tt
+passed_taken stream since (Some (message.Connection connection)) passed = tt
+passed_taken stream since (Some (message.Catalog catalog)) passed = tt
+passed_taken stream since (Some (message.Trace content)) passed = passed
+passed_taken stream since (Some (message.Control control)) passed = tt
+
+fits_as : (stream : List ℕ) (counted : Counted) (round : Round) → Fits stream counted round → FitsAs stream counted (round_line round) (round_found round)
+fits_as stream counted (record_round line content) fits = record { short = fits.short; answer = fits.message; taken = fits.taken }
+fits_as stream counted (state_round line state echo) fits = record { short = fits.short; answer = fits.message; taken = fits.taken }
+fits_as stream counted (other_round line found) fits = record { short = fits.short; answer = fits.message; taken = passed_taken stream counted.since found fits.passed }
 
 -- a line that fits is taken
 pub taken_not_unbuilt : (stream : List ℕ) (counted : Counted) (round : Round) → Fits stream counted round → IsUnbuilt stream counted.since (round_line round) → ⊥
-taken_not_unbuilt stream counted round fits (inl long) = absurd (omega (arith, (fits_as stream counted round fits).0, long))
-taken_not_unbuilt stream counted round fits (inr none) = let known = fits_as stream counted round fits in none (round_message round) known.1.is known.2
+taken_not_unbuilt stream counted round fits (inl long) = absurd (omega (arith, (fits_as stream counted round fits).short, long))
+taken_not_unbuilt stream counted round fits (inr refused) =
+    let known = fits_as stream counted round fits in
+    refused.refused (subst (λ (f : Option Message). IsTaken stream counted.since f) (answer_only (round_line round) (round_found round) refused.found known.answer refused.message) known.taken)
 
--- what a round counts depends on its message alone
-abbrev pub counted_as : Counted → Message → Counted
-counted_as counted (message.Rec content) = record { records = counted.records + 1; since = counted.since + 1 }
-counted_as counted (message.State state) = record { records = counted.records; since = 0 }
+-- what a line counts depends on its message alone
+abbrev pub counted_as : Counted → Option Message → Counted
+counted_as counted None = counted
+counted_as counted (Some (message.Rec content)) = record { records = counted.records + 1; since = counted.since + 1 }
+counted_as counted (Some (message.State state)) = record { records = counted.records; since = 0 }
+counted_as counted (Some (message.Log log)) = counted
+counted_as counted (Some (message.Spec spec)) = counted
+counted_as counted (Some (message.Connection connection)) = counted
+counted_as counted (Some (message.Catalog catalog)) = counted
+counted_as counted (Some (message.Trace content)) = counted
+counted_as counted (Some (message.Control control)) = counted
 
-counted_by_message : (counted : Counted) (round : Round) → counted_after counted round ≡ counted_as counted (round_message round)
-counted_by_message counted (record_round line content) = refl
-counted_by_message counted (state_round line state echo) = refl
+passed_counted : (counted : Counted) (found : Option Message) → IsPassedOver found → counted ≡ counted_as counted found
+passed_counted counted None passed = refl
+passed_counted counted (Some (message.Rec content)) passed = absurd passed
+passed_counted counted (Some (message.State state)) passed = absurd passed
+passed_counted counted (Some (message.Log log)) passed = refl
+passed_counted counted (Some (message.Spec spec)) passed = refl
+passed_counted counted (Some (message.Connection connection)) passed = refl
+passed_counted counted (Some (message.Catalog catalog)) passed = refl
+passed_counted counted (Some (message.Trace content)) passed = refl
+passed_counted counted (Some (message.Control control)) passed = refl
 
--- two rounds of one line are one message
-same_message : (stream stream' : List ℕ) (counted counted' : Counted) (a b : Round) → Fits stream counted a → Fits stream' counted' b → round_line a ≡ round_line b → round_message a ≡ round_message b
-same_message stream stream' counted counted' a b fits fits' e =
-    (fits_as stream' counted' b fits').1.only (round_message a) (subst (λ (line : List ℕ). IsMessage line (round_message a)) e (fits_as stream counted a fits).1.is)
+counted_by_found : (stream : List ℕ) (counted : Counted) (round : Round) → Fits stream counted round → counted_after counted round ≡ counted_as counted (round_found round)
+counted_by_found stream counted (record_round line content) fits = refl
+counted_by_found stream counted (state_round line state echo) fits = refl
+counted_by_found stream counted (other_round line found) fits = passed_counted counted found fits.passed
 
-same_counted : (counted : Counted) (a b : Round) → round_message a ≡ round_message b → counted_after counted a ≡ counted_after counted b
-same_counted counted a b e = counted_by_message counted a ∙ (ap (λ (m : Message). counted_as counted m) e ∙ sym (counted_by_message counted b))
+-- two rounds of one line were heard alike
+same_found : (stream : List ℕ) (counted : Counted) (a b : Round) → Fits stream counted a → Fits stream counted b → round_line a ≡ round_line b → round_found a ≡ round_found b
+same_found stream counted a b fits fits' e =
+    answer_only (round_line b) (round_found a) (round_found b) (subst (λ (line : List ℕ). IsAnswer (IsMessage line) (round_found a)) e (fits_as stream counted a fits).answer) (fits_as stream counted b fits').answer
+
+abbrev heard : List ℕ → Option Message → Heard
+heard line found = record { line = line; found = found }
+
+same_heard : (stream : List ℕ) (counted : Counted) (a b : Round) → Fits stream counted a → Fits stream counted b → round_line a ≡ round_line b → heard_of a ≡ heard_of b
+same_heard stream counted a b fits fits' e = both (round_line a) (round_line b) (round_found a) (round_found b) e (same_found stream counted a b fits fits' e)
+  where
+    both : (line line' : List ℕ) (found found' : Option Message) → line ≡ line' → found ≡ found' → heard line found ≡ heard line' found'
+    both line line' found found' p q = ap (λ (l : List ℕ). heard l found) p ∙ ap (λ (f : Option Message). heard line' f) q
+
+same_counted : (stream : List ℕ) (counted : Counted) (a b : Round) → Fits stream counted a → Fits stream counted b → round_line a ≡ round_line b → counted_after counted a ≡ counted_after counted b
+same_counted stream counted a b fits fits' e =
+    counted_by_found stream counted a fits ∙ (ap (λ (f : Option Message). counted_as counted f) (same_found stream counted a b fits fits' e) ∙ sym (counted_by_found stream counted b fits'))
 
 -- what stands behind lines that were taken, where no more is taken: nothing, or a line that is not taken
 abbrev pub IsStop : List ℕ → Counted → List (List ℕ) → Type 0
@@ -78,38 +130,40 @@ heads xs ys x y e = cc
 tails : (xs ys : List (List ℕ)) (x y : List ℕ) → x ∷ xs ≡ y ∷ ys → xs ≡ ys
 tails xs ys x y e = cc
 
--- the messages of one reading go on those of another
-pub record GoesOn (front whole : List Message) : Type 0 where
-  pub more : List Message
+-- what is heard in one reading goes on that of another
+pub record GoesOn (front whole : List Heard) : Type 0 where
+  pub more : List Heard
   pub is : whole ≡ front ++ more
 
 -- a reading that takes as much as it can goes on any other
-pub goes_on : (stream : List ℕ) (counted : Counted) (a b : List Round) (rest rest' : List (List ℕ)) → AreRounds stream counted a → AreRounds stream counted b → map round_line a ++ rest ≡ map round_line b ++ rest' → IsStop stream (counted_through counted b) rest' → GoesOn (messages_of a) (messages_of b)
-goes_on stream counted [] b rest rest' fa fb e stop = record { more = messages_of b; is = refl }
+pub goes_on : (stream : List ℕ) (counted : Counted) (a b : List Round) (rest rest' : List (List ℕ)) → AreRounds stream counted a → AreRounds stream counted b → map round_line a ++ rest ≡ map round_line b ++ rest' → IsStop stream (counted_through counted b) rest' → GoesOn (heard_in a) (heard_in b)
+goes_on stream counted [] b rest rest' fa fb e stop = record { more = heard_in b; is = refl }
 goes_on stream counted (x ∷ a) [] rest rest' fa fb e stop = absurd (stop_takes_nothing stream counted rest' (map round_line a ++ rest) x stop fa.0 (sym e))
 goes_on stream counted (x ∷ a) (y ∷ b) rest rest' fa fb e stop =
-    let same = same_message stream stream counted counted x y fa.0 fb.0 (heads (map round_line a ++ rest) (map round_line b ++ rest') (round_line x) (round_line y) e) in
-    let further = goes_on stream (counted_after counted y) a b rest rest' (subst (λ (c : Counted). AreRounds stream c a) (same_counted counted x y same) fa.1) fb.1 (tails (map round_line a ++ rest) (map round_line b ++ rest') (round_line x) (round_line y) e) stop in
+    let line = heads (map round_line a ++ rest) (map round_line b ++ rest') (round_line x) (round_line y) e in
+    let same = same_heard stream counted x y fa.0 fb.0 line in
+    let further = goes_on stream (counted_after counted y) a b rest rest' (subst (λ (c : Counted). AreRounds stream c a) (same_counted stream counted x y fa.0 fb.0 line) fa.1) fb.1 (tails (map round_line a ++ rest) (map round_line b ++ rest') (round_line x) (round_line y) e) stop in
     record {
       more = further.more;
-      is = ap (λ (ms : List Message). round_message y ∷ ms) further.is ∙ ap (λ (m : Message). m ∷ (messages_of a ++ further.more)) (sym same);
+      is = ap (λ (hs : List Heard). heard_of y ∷ hs) further.is ∙ ap (λ (h : Heard). h ∷ (heard_in a ++ further.more)) (sym same);
     }
 
 -- two readings that both take as much as they can are the same
 pub record Agrees (a b : List Round) (rest rest' : List (List ℕ)) : Type 0 where
-  pub messages : messages_of a ≡ messages_of b
+  pub heard : heard_in a ≡ heard_in b
   pub left : rest ≡ rest'
 
 pub agrees : (stream : List ℕ) (counted : Counted) (a b : List Round) (rest rest' : List (List ℕ)) → AreRounds stream counted a → AreRounds stream counted b → map round_line a ++ rest ≡ map round_line b ++ rest' → IsStop stream (counted_through counted a) rest → IsStop stream (counted_through counted b) rest' → Agrees a b rest rest'
-agrees stream counted [] [] rest rest' fa fb e stop stop' = record { messages = refl; left = e }
+agrees stream counted [] [] rest rest' fa fb e stop stop' = record { heard = refl; left = e }
 agrees stream counted [] (y ∷ b) rest rest' fa fb e stop stop' = absurd (stop_takes_nothing stream counted rest (map round_line b ++ rest') y stop fb.0 e)
 agrees stream counted (x ∷ a) [] rest rest' fa fb e stop stop' = absurd (stop_takes_nothing stream counted rest' (map round_line a ++ rest) x stop' fa.0 (sym e))
 agrees stream counted (x ∷ a) (y ∷ b) rest rest' fa fb e stop stop' =
-    let same = same_message stream stream counted counted x y fa.0 fb.0 (heads (map round_line a ++ rest) (map round_line b ++ rest') (round_line x) (round_line y) e) in
-    let counts = same_counted counted x y same in
+    let line = heads (map round_line a ++ rest) (map round_line b ++ rest') (round_line x) (round_line y) e in
+    let same = same_heard stream counted x y fa.0 fb.0 line in
+    let counts = same_counted stream counted x y fa.0 fb.0 line in
     let further = agrees stream (counted_after counted y) a b rest rest' (subst (λ (c : Counted). AreRounds stream c a) counts fa.1) fb.1 (tails (map round_line a ++ rest) (map round_line b ++ rest') (round_line x) (round_line y) e) (subst (λ (c : Counted). IsStop stream (counted_through c a) rest) counts stop) stop' in
     record {
-      messages = ap (λ (m : Message). m ∷ messages_of a) same ∙ ap (λ (ms : List Message). round_message y ∷ ms) further.messages;
+      heard = ap (λ (h : Heard). h ∷ heard_in a) same ∙ ap (λ (hs : List Heard). heard_of y ∷ hs) further.heard;
       left = further.left;
     }
 
@@ -118,9 +172,9 @@ pub record SameEnd (end end' : Status) (lines lines' : List (List ℕ)) : Type 0
   pub ends : end ≡ end'
   pub says : lines ≡ lines'
 
-length_of_messages : (a : List Round) → length (messages_of a) ≡ length a
-length_of_messages [] = refl
-length_of_messages (x ∷ a) = let more = length_of_messages a in omega (arith, more)
+length_of_heard : (a : List Round) → length (heard_in a) ≡ length a
+length_of_heard [] = refl
+length_of_heard (x ∷ a) = let more = length_of_heard a in omega (arith, more)
 
 same_end : (stream : List ℕ) (a b : List Round) (rest rest' : List (List ℕ)) (end end' : Status) → EndsBehind stream a rest end → EndsBehind stream b rest' end' → Agrees a b rest rest' → end ≡ end'
 same_end stream a b rest rest' status.Ok status.Ok ends ends' agree = refl
@@ -135,7 +189,7 @@ same_end stream a b rest rest' (status.Unbuilt line) status.Ok ends ends' agree 
 same_end stream a b rest rest' (status.Unbuilt line) (status.Unbuilt line') ends ends' agree = ap (λ (n : ℕ). status.Unbuilt n) numbers
   where
     lengths : length a ≡ length b
-    lengths = sym (length_of_messages a) ∙ (ap length agree.messages ∙ length_of_messages b)
+    lengths = sym (length_of_heard a) ∙ (ap length agree.heard ∙ length_of_heard b)
 
     numbers : line ≡ line'
     numbers = ends.4 ∙ (ap (λ (n : ℕ). n + 1) lengths ∙ sym ends'.4)
@@ -151,7 +205,7 @@ same_end stream a b rest rest' end status.NoMemory ends ends' agree = absurd end
 pub one_attempt : (text stream : List ℕ) (end end' : Status) (lines lines' : List (List ℕ)) → IsAttempt text stream end lines → IsAttempt text stream end' lines' → SameEnd end end' lines lines'
 one_attempt text stream end end' lines lines' is is' = record {
   ends = ends;
-  says = is.says ∙ (ap (λ (ms : List Message). attempt_lines stream ms end) agree.messages ∙ (ap (λ (e : Status). attempt_lines stream (messages_of is'.reads.rounds) e) ends ∙ sym is'.says));
+  says = is.says ∙ (ap (λ (hs : List Heard). attempt_lines stream hs end) agree.heard ∙ (ap (λ (e : Status). attempt_lines stream (heard_in is'.reads.rounds) e) ends ∙ sym is'.says));
 }
   where
     agree : Agrees is.reads.rounds is'.reads.rounds is.reads.rest is'.reads.rest
@@ -162,13 +216,13 @@ one_attempt text stream end end' lines lines' is is' = record {
     ends = same_end stream is.reads.rounds is'.reads.rounds is.reads.rest is'.reads.rest end end' is.reads.ends is'.reads.ends agree
 
 -- what some lines say is a front of what an attempt says
-pub some_lines_front : (text stream : List ℕ) (a : List Round) (rest : List (List ℕ)) → AreRounds stream none_counted a → lines_of text ≡ map round_line a ++ rest → (end : Status) (lines : List (List ℕ)) → IsAttempt text stream end lines → IsFront (said_lines (messages_of a)) lines
+pub some_lines_front : (text stream : List ℕ) (a : List Round) (rest : List (List ℕ)) → AreRounds stream none_counted a → lines_of text ≡ map round_line a ++ rest → (end : Status) (lines : List (List ℕ)) → IsAttempt text stream end lines → IsFront (said_lines (heard_in a)) lines
 some_lines_front text stream a rest fits are end lines is = record {
-  rest = said_lines further.more ++ end_lines stream (row_lines (messages_of is.reads.rounds)) end;
-  splits = is.says ∙ (ap (λ (ls : List (List ℕ)). ls ++ end_lines stream (row_lines (messages_of is.reads.rounds)) end) (ap said_lines further.is ∙ flat_map-append said_of (messages_of a) further.more) ∙ append_assoc (said_lines (messages_of a)) (said_lines further.more) (end_lines stream (row_lines (messages_of is.reads.rounds)) end));
+  rest = said_lines further.more ++ end_lines stream (row_lines (heard_in is.reads.rounds)) end;
+  splits = is.says ∙ (ap (λ (ls : List (List ℕ)). ls ++ end_lines stream (row_lines (heard_in is.reads.rounds)) end) (ap said_lines further.is ∙ said_append (heard_in a) further.more) ∙ append_assoc (said_lines (heard_in a)) (said_lines further.more) (end_lines stream (row_lines (heard_in is.reads.rounds)) end));
 }
   where
-    further : GoesOn (messages_of a) (messages_of is.reads.rounds)
+    further : GoesOn (heard_in a) (heard_in is.reads.rounds)
     further = goes_on stream none_counted a is.reads.rounds rest is.reads.rest fits is.reads.fits (sym are ∙ is.reads.lines) (stop_of stream is.reads.rounds is.reads.rest end is.reads.ends)
 
 -- what the words and the texts come to

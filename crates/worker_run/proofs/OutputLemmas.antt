@@ -1,18 +1,37 @@
 -- The lines of a table, from the events of a world that is reached.
-use Rattle.std.proofs.Common.{◌≡◌, ℕ, ◌+◌, List, [], ◌∷◌, ◌++◌, length, flat_map, Bool, true, false, refl, sym, ◌∙◌, ap, subst, arith, add-zero, zero-add}
+use Rattle.std.proofs.Common.{◌≡◌, ℕ, ◌+◌, List, [], ◌∷◌, ◌++◌, length, map, flat_map, Option, None, Some, Bool, true, false, refl, sym, ◌∙◌, ap, subst, arith, add-zero, zero-add}
+use Rattle.std.specs.List.{filter_map, cons_option}
 use Rattle.std.proofs.lemmas.List.{append-nil}
 use Rattle.std.proofs.lemmas.Grind.{flat_map-append}
 use Rattle.outside.specs.declared.event.Event.{Event}
-use Rattle.worker_run.specs.Rounds.{Round, record_round, state_round, messages_of, Counted, none_counted, counted_after, counted_through}
+use Rattle.airbyte_message.specs.declared.message.Message.{Message}
+use Rattle.airbyte_message.specs.declared.message.Message.TheVariants as message
+use Rattle.worker_run.specs.Rounds.{Heard, Round, record_round, state_round, other_round, heard_in, Counted, none_counted, counted_after, counted_through, AreRounds, IsPassedOver}
 use Rattle.worker_run.specs.World.{World, first_events, rounds_events}
 use Rattle.worker_run.specs.EventParts.{rows_of}
-use Rattle.worker_run.specs.Output.{row_line, row_lines, body_lines, committed_lines}
+use Rattle.worker_run.specs.Output.{row_line, row_lines, body_of, body_lines, committed_lines}
 use Rattle.worker_run.specs.Reached.{IsReached, ending_events}
 
-pub committed_rounds : (stream : List ℕ) (counted : Counted) (rounds : List Round) → committed_lines (rounds_events stream counted rounds) ≡ row_lines (messages_of rounds)
-committed_rounds stream counted [] = refl
-committed_rounds stream counted (record_round line content ∷ rounds) = ap (λ (ls : List (List ℕ)). row_line content.body ∷ ls) (committed_rounds stream (counted_after counted (record_round line content)) rounds)
-committed_rounds stream counted (state_round line state echo ∷ rounds) = committed_rounds stream (counted_after counted (state_round line state echo)) rounds
+-- a line that is passed over has no row
+no_body : (found : Option Message) → IsPassedOver found → body_of found ≡ None
+no_body None passed = refl
+no_body (Some (message.Rec content)) passed = absurd passed
+no_body (Some (message.State state)) passed = refl
+no_body (Some (message.Log log)) passed = refl
+no_body (Some (message.Spec spec)) passed = refl
+no_body (Some (message.Connection connection)) passed = refl
+no_body (Some (message.Catalog catalog)) passed = refl
+no_body (Some (message.Trace content)) passed = refl
+no_body (Some (message.Control control)) passed = refl
+
+no_row : (line : List ℕ) (found : Option Message) (heard : List Heard) → IsPassedOver found → row_lines (record { line = line; found = found } ∷ heard) ≡ row_lines heard
+no_row line found heard passed = ap (λ (body : Option (List ℕ)). map row_line (cons_option body (filter_map (λ h. body_of h.found) heard))) (no_body found passed)
+
+pub committed_rounds : (stream : List ℕ) (counted : Counted) (rounds : List Round) → AreRounds stream counted rounds → committed_lines (rounds_events stream counted rounds) ≡ row_lines (heard_in rounds)
+committed_rounds stream counted [] are = refl
+committed_rounds stream counted (record_round line content ∷ rounds) are = ap (λ (ls : List (List ℕ)). row_line content.body ∷ ls) (committed_rounds stream (counted_after counted (record_round line content)) rounds are.1)
+committed_rounds stream counted (state_round line state echo ∷ rounds) are = committed_rounds stream (counted_after counted (state_round line state echo)) rounds are.1
+committed_rounds stream counted (other_round line found ∷ rounds) are = committed_rounds stream counted rounds are.1 ∙ sym (no_row line found (heard_in rounds) are.0.passed)
 
 ending_commits_nothing : (is_over : Bool) → committed_lines (ending_events is_over) ≡ []
 ending_commits_nothing true = refl
@@ -22,15 +41,16 @@ pub committed_append : (a b : List Event) → committed_lines (a ++ b) ≡ commi
 committed_append a b = flat_map-append (λ event. body_lines (rows_of event)) a b
 
 -- the rows that a world has committed are those of its records
-pub reached_rows : (world : World) (r : IsReached world) → committed_lines world.events ≡ row_lines (messages_of r.rounds)
+pub reached_rows : (world : World) (r : IsReached world) → committed_lines world.events ≡ row_lines (heard_in r.rounds)
 reached_rows world r =
-    ap committed_lines r.events ∙ (committed_append (first_events world.stream ++ rounds_events world.stream none_counted r.rounds) (ending_events world.is_over) ∙ (ap (λ (ls : List (List ℕ)). committed_lines (first_events world.stream ++ rounds_events world.stream none_counted r.rounds) ++ ls) (ending_commits_nothing world.is_over) ∙ (append-nil (committed_lines (first_events world.stream ++ rounds_events world.stream none_counted r.rounds)) ∙ (committed_append (first_events world.stream) (rounds_events world.stream none_counted r.rounds) ∙ committed_rounds world.stream none_counted r.rounds))))
+    ap committed_lines r.events ∙ (committed_append (first_events world.stream ++ rounds_events world.stream none_counted r.rounds) (ending_events world.is_over) ∙ (ap (λ (ls : List (List ℕ)). committed_lines (first_events world.stream ++ rounds_events world.stream none_counted r.rounds) ++ ls) (ending_commits_nothing world.is_over) ∙ (append-nil (committed_lines (first_events world.stream ++ rounds_events world.stream none_counted r.rounds)) ∙ (committed_append (first_events world.stream) (rounds_events world.stream none_counted r.rounds) ∙ committed_rounds world.stream none_counted r.rounds r.fits))))
 
 -- and so many were counted
-pub counted_rows : (counted : Counted) (rounds : List Round) → (counted_through counted rounds).records ≡ counted.records + length (row_lines (messages_of rounds))
-counted_rows counted [] = sym (add-zero counted.records)
-counted_rows counted (record_round line content ∷ rounds) = let more = counted_rows (counted_after counted (record_round line content)) rounds in omega (arith, more)
-counted_rows counted (state_round line state echo ∷ rounds) = counted_rows (counted_after counted (state_round line state echo)) rounds
+pub counted_rows : (stream : List ℕ) (counted : Counted) (rounds : List Round) → AreRounds stream counted rounds → (counted_through counted rounds).records ≡ counted.records + length (row_lines (heard_in rounds))
+counted_rows stream counted [] are = sym (add-zero counted.records)
+counted_rows stream counted (record_round line content ∷ rounds) are = let more = counted_rows stream (counted_after counted (record_round line content)) rounds are.1 in omega (arith, more)
+counted_rows stream counted (state_round line state echo ∷ rounds) are = counted_rows stream (counted_after counted (state_round line state echo)) rounds are.1
+counted_rows stream counted (other_round line found ∷ rounds) are = counted_rows stream counted rounds are.1 ∙ ap (λ (ls : List (List ℕ)). counted.records + length ls) (sym (no_row line found (heard_in rounds) are.0.passed))
 
 pub reached_count : (world : World) → IsReached world → world.counted.records ≡ length (committed_lines world.events)
-reached_count world r = ap (λ (c : Counted). c.records) r.counted ∙ (counted_rows none_counted r.rounds ∙ (zero-add (length (row_lines (messages_of r.rounds))) ∙ ap length (sym (reached_rows world r))))
+reached_count world r = ap (λ (c : Counted). c.records) r.counted ∙ (counted_rows world.stream none_counted r.rounds r.fits ∙ (zero-add (length (row_lines (heard_in r.rounds))) ∙ ap length (sym (reached_rows world r))))

@@ -5,7 +5,7 @@ use Rattle.outside.specs.declared.memory.NoMemory.{NoMemory}
 use Rattle.outside.specs.declared.event.Event.{Event}
 use Rattle.worker_run.specs.declared.plain_world.Step.{Step}
 use Rattle.worker_run.specs.declared.plain_world.Step.TheVariants as step
-use Rattle.worker_run.specs.Rounds.{Round, record_round, state_round, round_line, Counted, none_counted, counted_after, counted_through, Fits}
+use Rattle.worker_run.specs.Rounds.{Round, record_round, state_round, other_round, round_line, Counted, none_counted, counted_after, counted_through, Fits}
 use Rattle.worker_run.specs.World.{World, begun, took, ended, first_events, round_events, rounds_events, last_events}
 use Rattle.worker_run.specs.Steps.{Steps}
 use Rattle.worker_run.specs.Reached.{IsReached, ending_events}
@@ -66,6 +66,7 @@ reached_ended w r none = record {
 pub reached_step : (old new : World) (result : Result Step NoMemory) → IsReached old → Steps old result new → IsReached new
 reached_step old new (Ok step.Record) r h = subst IsReached (sym h.after) (reached_took old (record_round h.line h.content) h.rest r h.next h.fits)
 reached_step old new (Ok (step.Saved object)) r h = subst IsReached (sym h.after) (reached_took old (state_round h.line h.state h.echo) h.rest r h.next h.fits)
+reached_step old new (Ok (step.Other said)) r h = subst IsReached (sym h.after) (reached_took old (other_round h.line h.found) h.rest r h.next h.fits)
 reached_step old new (Ok step.Done) r h = subst IsReached (sym h.after) (reached_ended old r h.none)
 reached_step old new (Ok (step.Unbuilt number)) r h = subst IsReached (sym h.1) r
 reached_step old new (Err fault) r h = subst IsReached (sym h) r

@@ -1,14 +1,15 @@
 -- Lines that are taken one after another.
 use Rattle.std.proofs.Common.{◌≡◌, ℕ, ◌+◌, List, [], ◌∷◌, ◌++◌, map, fold, length, Option, None, Some, Result, Ok, Err, OnErr, inl, inr, refl, sym, ◌∙◌, ap, subst, append_assoc, add-zero, zero-add, arith}
 use Rattle.std.proofs.lemmas.List.{append-nil, map-append, length-append}
-use Rattle.std.proofs.lemmas.Grind.{flat_map-append}
+use Rattle.std.specs.List.{cons_option}
+use Rattle.std.proofs.lemmas.List.Elements.{filter_map-append}
 use Rattle.outside.specs.Told.{told_more}
 use Rattle.outside.specs.Desk.{SaidOrNot}
 use Rattle.outside.specs.declared.event.Event.{Event}
-use Rattle.worker_run.specs.Rounds.{Round, record_round, state_round, round_line, round_message, messages_of, Counted, counted_after, counted_through, Fits, AreRounds}
+use Rattle.worker_run.specs.Rounds.{Heard, Round, record_round, state_round, other_round, round_line, round_found, heard_of, heard_in, Counted, counted_after, counted_through, Fits, AreRounds}
 use Rattle.worker_run.specs.World.{World, took, round_events, rounds_events}
-use Rattle.worker_run.specs.Output.{saved_line, said_of, said_lines}
-use Rattle.worker_run.specs.Steps.{TakesRecord, TakesState}
+use Rattle.worker_run.specs.Output.{saved_line, heard_line, option_list, HeardOrNot, said_lines}
+use Rattle.worker_run.specs.Steps.{TakesRecord, TakesState, TakesOther}
 use Rattle.worker_run.specs.Reading.{TakesLines, SaysLines, ReadsSome}
 
 pub counted_through-more : (counted : Counted) (rounds : List Round) (round : Round) → counted_through counted (rounds ++ round ∷ []) ≡ counted_after (counted_through counted rounds) round
@@ -24,13 +25,24 @@ rounds_events-more stream counted [] round = append-nil (round_events stream cou
 rounds_events-more stream counted (r ∷ rounds) round =
     ap (λ (es : List Event). round_events stream counted r ++ es) (rounds_events-more stream (counted_after counted r) rounds round) ∙ sym (append_assoc (round_events stream counted r) (rounds_events stream (counted_after counted r) rounds) (round_events stream (counted_through (counted_after counted r) rounds) round))
 
-pub messages_of-more : (rounds : List Round) (round : Round) → messages_of (rounds ++ round ∷ []) ≡ messages_of rounds ++ round_message round ∷ []
-messages_of-more rounds round = map-append round_message rounds (round ∷ [])
+pub heard_in-more : (rounds : List Round) (round : Round) → heard_in (rounds ++ round ∷ []) ≡ heard_in rounds ++ heard_of round ∷ []
+heard_in-more rounds round = map-append heard_of rounds (round ∷ [])
 
--- one message more is said behind the others
-pub said_lines-more : (rounds : List Round) (round : Round) → said_lines (messages_of (rounds ++ round ∷ [])) ≡ said_lines (messages_of rounds) ++ said_of (round_message round)
+-- what a line says
+abbrev pub said_of : Heard → List (List ℕ)
+said_of heard = option_list (heard_line heard.line heard.found)
+
+one_option : (said : Option (List ℕ)) → cons_option said [] ≡ option_list said
+one_option None = refl
+one_option (Some line) = refl
+
+pub said_append : (a b : List Heard) → said_lines (a ++ b) ≡ said_lines a ++ said_lines b
+said_append a b = filter_map-append (λ h. heard_line h.line h.found) a b
+
+-- one line more is said behind the others
+pub said_lines-more : (rounds : List Round) (round : Round) → said_lines (heard_in (rounds ++ round ∷ [])) ≡ said_lines (heard_in rounds) ++ said_of (heard_of round)
 said_lines-more rounds round =
-    ap said_lines (messages_of-more rounds round) ∙ (flat_map-append said_of (messages_of rounds) (round_message round ∷ []) ∙ ap (λ (ls : List (List ℕ)). said_lines (messages_of rounds) ++ ls) (append-nil (said_of (round_message round))))
+    ap said_lines (heard_in-more rounds round) ∙ (said_append (heard_in rounds) (heard_of round ∷ []) ∙ ap (λ (ls : List (List ℕ)). said_lines (heard_in rounds) ++ ls) (one_option (heard_line (round_line round) (round_found round))))
 
 pub told_more-twice : {A : Type 0} (front more : List A) (before : Option (List A)) → told_more more (told_more front before) ≡ told_more (front ++ more) before
 told_more-twice front more None = refl
@@ -73,11 +85,11 @@ takes_more old mid new rounds round rest takes next fits after =
         same = ap (λ (s : List ℕ). round_events s mid.counted round) takes.stream ∙ ap (λ (c : Counted). round_events old.stream c round) takes.counted
 
 -- one line more, and what it says
-pub says_more : (old mid new : World) (before now after : Option (List (List ℕ))) (round : Round) (rest : List (List ℕ)) → SaysLines old mid before now → mid.lines ≡ round_line round ∷ rest → Fits mid.stream mid.counted round → new ≡ took mid round rest → after ≡ told_more (said_of (round_message round)) now → SaysLines old new before after
+pub says_more : (old mid new : World) (before now after : Option (List (List ℕ))) (round : Round) (rest : List (List ℕ)) → SaysLines old mid before now → mid.lines ≡ round_line round ∷ rest → Fits mid.stream mid.counted round → new ≡ took mid round rest → after ≡ told_more (said_of (heard_of round)) now → SaysLines old new before after
 says_more old mid new before now after round rest says next fits is said = record {
   rounds = says.rounds ++ round ∷ [];
   takes = takes_more old mid new says.rounds round rest says.takes next fits is;
-  said = said ∙ (ap (λ (t : Option (List (List ℕ))). told_more (said_of (round_message round)) t) says.said ∙ (told_more-twice (said_lines (messages_of says.rounds)) (said_of (round_message round)) before ∙ ap (λ (ls : List (List ℕ)). told_more ls before) (sym (said_lines-more says.rounds round))));
+  said = said ∙ (ap (λ (t : Option (List (List ℕ))). told_more (said_of (heard_of round)) t) says.said ∙ (told_more-twice (said_lines (heard_in says.rounds)) (said_of (heard_of round)) before ∙ ap (λ (ls : List (List ℕ)). told_more ls before) (sym (said_lines-more says.rounds round))));
 }
 
 -- a record more, and a state more, whose line was said
@@ -89,6 +101,18 @@ pub says_state : (old mid new : World) (object : List ℕ) (before now after : O
 says_state old mid new object before now after says state said =
     says_more old mid new before now after (state_round state.line state.state state.echo) state.rest says state.next state.fits state.after
     (said ∙ ap (λ (o : List ℕ). told_more (saved_line o ∷ []) now) state.saved)
+
+-- a line more that was passed over, and what it says
+pub says_other : (old mid new : World) (other : Option (List ℕ)) (before now after : Option (List (List ℕ))) → SaysLines old mid before now → TakesOther mid other new → after ≡ told_more (option_list other) now → SaysLines old new before after
+says_other old mid new other before now after says takes said =
+    says_more old mid new before now after (other_round takes.line takes.found) takes.rest says takes.next takes.fits takes.after
+    (said ∙ ap (λ (o : Option (List ℕ)). told_more (option_list o) now) takes.is)
+
+-- what such a line says was said or not
+pub says_some_other : (old mid new : World) (other : Option (List ℕ)) (before now after : Option (List (List ℕ))) → SaysLines old mid before now → TakesOther mid other new → HeardOrNot other now after → ReadsSome old before after
+says_some_other old mid new None before now after says takes same = record { through = mid; says = subst (λ (t : Option (List (List ℕ))). SaysLines old mid before t) (sym same) says }
+says_some_other old mid new (Some line) before now after says takes (inl same) = record { through = mid; says = subst (λ (t : Option (List (List ℕ))). SaysLines old mid before t) (sym same) says }
+says_some_other old mid new (Some line) before now after says takes (inr said) = record { through = new; says = says_other old mid new (Some line) before now after says takes said }
 
 -- the line of a saved state was said or not
 pub says_some : (old mid new : World) (object : List ℕ) (before now after : Option (List (List ℕ))) → SaysLines old mid before now → TakesState mid object new → SaidOrNot (saved_line object) now after → ReadsSome old before after

@@ -11,7 +11,7 @@ use Rattle.outside.specs.Desk.{Texts, SaidOrNot}
 use Rattle.json_fields.specs.Answer.{IsOnly}
 use Rattle.worker_run.specs.Words.{TextNames}
 use Rattle.worker_run.specs.Catalog.{IsCatalog}
-use Rattle.worker_run.specs.Rounds.{Round, messages_of, Counted, none_counted, counted_through, AreRounds, IsUnbuilt}
+use Rattle.worker_run.specs.Rounds.{Round, heard_in, Counted, none_counted, counted_through, AreRounds, IsUnbuilt}
 use Rattle.worker_run.specs.World.{World, begun, ended, first_events, rounds_events, last_events}
 use Rattle.worker_run.specs.Output.{said_lines, row_lines, end_lines, attempt_lines, committed_lines, usage_line, status_line}
 use Rattle.worker_run.specs.Reading.{TakesLines, SaysLines, EndsAs, LeavesAs, Reads, ReadsSome, EndsBehind, ReadsTo, IsAttempt, Attempted, IsFront, StopsShort, HasTextNamed, RefusesCatalog, RunsAttempt, ComesTo, WouldSay, IsFrontOfBody, IsFrontOfAll, SaidBody, SaidPart, SaysBody, SaidAll, SaidFront, Says, IsReadFault, IsSayFault, StatusSaid, SaysLast, EndsAtFault, IsFault, IsUsageEnd, IsOnlyEnd, EndsWithStatus, NothingUnbuilt, IsOkOrNoMemory}
@@ -30,7 +30,7 @@ ends_behind stream through rounds status.SayFault s c n h = h
 ends_behind stream through rounds (status.Unbuilt line) s c n h = (h.0, h.1, h.2, subst (λ (k : Counted). IsUnbuilt stream k.since h.0) c (subst (λ (t : List ℕ). IsUnbuilt t through.counted.since h.0) s h.3), h.4 ∙ ap (λ (m : ℕ). m + 1) n)
 ends_behind stream through rounds status.NoMemory s c n h = h
 
-pub attempt_of : (text stream : List ℕ) (old new : World) (end : Status) (before now : Option (List (List ℕ))) → old ≡ begun text stream → (reads : Reads old new end before now) → IsAttempt text stream end (attempt_lines stream (messages_of reads.says.rounds) end)
+pub attempt_of : (text stream : List ℕ) (old new : World) (end : Status) (before now : Option (List (List ℕ))) → old ≡ begun text stream → (reads : Reads old new end before now) → IsAttempt text stream end (attempt_lines stream (heard_in reads.says.rounds) end)
 attempt_of text stream old new end before now begins reads =
     let takes : TakesLines (begun text stream) reads.through reads.says.rounds = subst (λ (w : World). TakesLines w reads.through reads.says.rounds) begins reads.says.takes in
     record {
@@ -67,16 +67,16 @@ stream_left through new (status.Unbuilt line) leaves = ap (λ (w : World). w.str
 stream_left through new status.NoMemory leaves = absurd leaves
 
 -- the lines at the end of an attempt, by its messages
-end_is : (text stream : List ℕ) (old new : World) (end : Status) (before mid : Option (List (List ℕ))) → old ≡ begun text stream → (reads : Reads old new end before mid) → end_lines new.stream (committed_lines new.events) end ≡ end_lines stream (row_lines (messages_of reads.says.rounds)) end
+end_is : (text stream : List ℕ) (old new : World) (end : Status) (before mid : Option (List (List ℕ))) → old ≡ begun text stream → (reads : Reads old new end before mid) → end_lines new.stream (committed_lines new.events) end ≡ end_lines stream (row_lines (heard_in reads.says.rounds)) end
 end_is text stream old new end before mid begins reads =
     let takes : TakesLines (begun text stream) reads.through reads.says.rounds = subst (λ (w : World). TakesLines w reads.through reads.says.rounds) begins reads.says.takes in
-    ap (λ (s : List ℕ). end_lines s (committed_lines new.events) end) (stream_left reads.through new end reads.leaves ∙ takes.stream) ∙ ap (λ (rows : List (List ℕ)). end_lines stream rows end) (rows_left reads.through new end reads.leaves ∙ (ap committed_lines takes.events ∙ (committed_append (first_events stream) (rounds_events stream none_counted reads.says.rounds) ∙ committed_rounds stream none_counted reads.says.rounds)))
+    ap (λ (s : List ℕ). end_lines s (committed_lines new.events) end) (stream_left reads.through new end reads.leaves ∙ takes.stream) ∙ ap (λ (rows : List (List ℕ)). end_lines stream rows end) (rows_left reads.through new end reads.leaves ∙ (ap committed_lines takes.events ∙ (committed_append (first_events stream) (rounds_events stream none_counted reads.says.rounds) ∙ committed_rounds stream none_counted reads.says.rounds takes.fits)))
 
 pub attempted : (text stream : List ℕ) (old new : World) (end : Status) (before mid now : Option (List (List ℕ))) → old ≡ begun text stream → Reads old new end before mid → now ≡ told_more (end_lines new.stream (committed_lines new.events) end) mid → Attempted text stream end before now
 attempted text stream old new end before mid now begins reads said = record {
-  lines = attempt_lines stream (messages_of reads.says.rounds) end;
+  lines = attempt_lines stream (heard_in reads.says.rounds) end;
   is = attempt_of text stream old new end before mid begins reads;
-  said = said_both (said_lines (messages_of reads.says.rounds)) (end_lines stream (row_lines (messages_of reads.says.rounds)) end) before mid now reads.says.said (said ∙ ap (λ (ls : List (List ℕ)). told_more ls mid) (end_is text stream old new end before mid begins reads));
+  said = said_both (said_lines (heard_in reads.says.rounds)) (end_lines stream (row_lines (heard_in reads.says.rounds)) end) before mid now reads.says.said (said ∙ ap (λ (ls : List (List ℕ)). told_more ls mid) (end_is text stream old new end before mid begins reads));
 }
 
 -- an attempt that stops short
@@ -88,7 +88,7 @@ pub short_lines : (text stream : List ℕ) (old : World) (before now : Option (L
 short_lines text stream old before now begins some =
     let takes : TakesLines (begun text stream) some.through some.says.rounds = subst (λ (w : World). TakesLines w some.through some.says.rounds) begins some.says.takes in
     record {
-      front = said_lines (messages_of some.says.rounds);
+      front = said_lines (heard_in some.says.rounds);
       said = some.says.said;
       is = some_lines_front text stream some.says.rounds some.through.lines takes.fits takes.lines;
     }
@@ -96,17 +96,17 @@ short_lines text stream old before now begins some =
 pub short_end : (text stream : List ℕ) (old new : World) (end : Status) (before mid now : Option (List (List ℕ))) → old ≡ begun text stream → Reads old new end before mid → GrewByFront (end_lines new.stream (committed_lines new.events) end) mid now → StopsShort text stream before now
 short_end text stream old new end before mid now begins reads grew = short
   where
-    ends : GrewByFront (end_lines stream (row_lines (messages_of reads.says.rounds)) end) mid now
+    ends : GrewByFront (end_lines stream (row_lines (heard_in reads.says.rounds)) end) mid now
     ends = subst (λ (ls : List (List ℕ)). GrewByFront ls mid now) (end_is text stream old new end before mid begins reads) grew
 
-    whole : GrewByFront (attempt_lines stream (messages_of reads.says.rounds) end) before now
-    whole = front_second (said_lines (messages_of reads.says.rounds)) (end_lines stream (row_lines (messages_of reads.says.rounds)) end) before mid now reads.says.said ends
+    whole : GrewByFront (attempt_lines stream (heard_in reads.says.rounds) end) before now
+    whole = front_second (said_lines (heard_in reads.says.rounds)) (end_lines stream (row_lines (heard_in reads.says.rounds)) end) before mid now reads.says.said ends
 
     short : StopsShort text stream before now
     short = record {
       front = whole.front;
       said = whole.grew;
-      is = λ other lines is. record { rest = whole.rest; splits = sym (one_attempt text stream end other (attempt_lines stream (messages_of reads.says.rounds) end) lines (attempt_of text stream old new end before mid begins reads) is).says ∙ whole.splits };
+      is = λ other lines is. record { rest = whole.rest; splits = sym (one_attempt text stream end other (attempt_lines stream (heard_in reads.says.rounds) end) lines (attempt_of text stream old new end before mid begins reads) is).says ∙ whole.splits };
     }
 
 -- the body of a run

@@ -15,13 +15,17 @@ use Rattle.airbyte_message.specs.declared.message.Message.{Message}
 use Rattle.airbyte_message.specs.declared.message.Message.TheVariants as message
 use Rattle.airbyte_message.specs.declared.message.RecordMsg.{RecordMsg}
 use Rattle.airbyte_message.specs.declared.message.StateMsg.{StateMsg}
-use Rattle.worker_run.specs.Rounds.{Round, record_round, state_round, round_line, round_message, messages_of, Counted, none_counted, counted_after, counted_through, Fits, FitsState, AreRounds}
+use Rattle.airbyte_message.specs.declared.message.StateKind.{StateKind}
+use Rattle.airbyte_message.specs.declared.message.StateKind.TheVariants as kind
+use Rattle.airbyte_message.specs.declared.message.TraceMsg.{TraceMsg}
+use Rattle.airbyte_message.specs.declared.message.TraceMsg.TheVariants as trace
+use Rattle.worker_run.specs.Rounds.{Heard, Round, record_round, state_round, other_round, round_line, heard_of, Counted, none_counted, counted_after, counted_through, Fits, FitsState, AreRounds, KindIsOf, IsPassedTrace, IsPassedOver}
 use Rattle.worker_run.specs.Store.{store_text, states_text}
 use Rattle.worker_run.specs.World.{World, row_of, stream_plan, attempt_plan, first_events, round_events, rounds_events, last_events, record_events, state_events}
 use Rattle.worker_run.specs.EventParts.{read_line, given_line, got_line, saved_text, rows_of}
 use Rattle.worker_run.specs.Reached.{IsReached, ending_events}
-use Rattle.worker_run.specs.SafeSync.{attempt_after, attempt, last_saved, AreMessages, ReadState, states_behind, Echoes, Takes, Covers, StartsSafely, SavesNothing, SavesTaken, IsSafeSoFar, IsSafeSync}
-use Rattle.worker_run.proofs.ReadingLemmas.{counted_through-more, AreRounds-more, rounds_events-more, messages_of-more}
+use Rattle.worker_run.specs.SafeSync.{attempt_after, attempt, last_saved, heard_text, PassesKind, PassesTrace, Passes, ArePassed, GivesPassed, ReadState, states_behind, Echoes, Takes, Covers, StartsSafely, SavesNothing, SavesTaken, IsSafeSoFar, IsSafeSync}
+use Rattle.worker_run.proofs.ReadingLemmas.{counted_through-more, AreRounds-more, rounds_events-more}
 
 -- lists that end in one element more
 
@@ -78,10 +82,6 @@ reads events = filter_map read_line (attempt events)
 abbrev gives : List Event → List (List ℕ)
 gives events = filter_map given_line (attempt events)
 
--- all that was read was given
-abbrev pub IsEven : List Event → Type 0
-IsEven events = reads events ≡ gives events
-
 attempt_more : (events : List Event) (event : Event) → attempt (events ++ event ∷ []) ≡ attempt_after (attempt events) event
 attempt_more events event = fold-append attempt_after [] events (event ∷ [])
 
@@ -91,48 +91,101 @@ reads_more events event goes_on = ap (λ (es : List Event). filter_map read_line
 gives_more : (events : List Event) (event : Event) → attempt_after (attempt events) event ≡ attempt events ++ event ∷ [] → gives (events ++ event ∷ []) ≡ gives events ++ filter_map given_line (event ∷ [])
 gives_more events event goes_on = ap (λ (es : List Event). filter_map given_line es) (attempt_more events event ∙ goes_on) ∙ filter_map-append given_line (attempt events) (event ∷ [])
 
+-- the lines that are passed on, of lines that were taken
+
+abbrev pub passed_in : List Round → List Heard
+passed_in [] = []
+passed_in (record_round line content ∷ rounds) = heard_of (record_round line content) ∷ passed_in rounds
+passed_in (state_round line state echo ∷ rounds) = heard_of (state_round line state echo) ∷ passed_in rounds
+passed_in (other_round line found ∷ rounds) = passed_in rounds
+
+passed_append : (a b : List Round) → passed_in (a ++ b) ≡ passed_in a ++ passed_in b
+passed_append [] b = refl
+passed_append (record_round line content ∷ a) b = ap (λ (hs : List Heard). heard_of (record_round line content) ∷ hs) (passed_append a b)
+passed_append (state_round line state echo ∷ a) b = ap (λ (hs : List Heard). heard_of (state_round line state echo) ∷ hs) (passed_append a b)
+passed_append (other_round line found ∷ a) b = passed_append a b
+
+kind_passes : (stream : List ℕ) (what : StateKind) → KindIsOf stream what → PassesKind stream what
+kind_passes stream (kind.Stream id blob) is = is
+kind_passes stream (kind.Global shared streams) is = tt
+kind_passes stream kind.Legacy is = is
+
+trace_stays : (stream : List ℕ) (content : TraceMsg) → IsPassedTrace content → PassesTrace stream content → ⊥
+trace_stays stream (trace.Error text failure emitted_at) over passes = passes
+trace_stays stream (trace.Status id status emitted_at) over passes = over
+trace_stays stream (trace.Other object) over passes = passes
+
+-- what is passed over is not passed on
+other_stays : (stream : List ℕ) (found : Option Message) → IsPassedOver found → Passes stream found → ⊥
+other_stays stream None over passes = passes
+other_stays stream (Some (message.Rec content)) over passes = over
+other_stays stream (Some (message.State state)) over passes = over
+other_stays stream (Some (message.Log log)) over passes = passes
+other_stays stream (Some (message.Spec spec)) over passes = passes
+other_stays stream (Some (message.Connection connection)) over passes = passes
+other_stays stream (Some (message.Catalog catalog)) over passes = passes
+other_stays stream (Some (message.Trace content)) over passes = trace_stays stream content over passes
+other_stays stream (Some (message.Control control)) over passes = passes
+
+are_passed : (stream : List ℕ) (counted : Counted) (rounds : List Round) → AreRounds stream counted rounds → ArePassed stream (map round_line rounds) (passed_in rounds)
+are_passed stream counted [] are = refl
+are_passed stream counted (record_round line content ∷ rounds) are = (Some (message.Rec content), are.0.message, passed_in rounds, are_passed stream (counted_after counted (record_round line content)) rounds are.1, inl (are.0.taken, refl))
+are_passed stream counted (state_round line state echo ∷ rounds) are = (Some (message.State state), are.0.message, passed_in rounds, are_passed stream (counted_after counted (state_round line state echo)) rounds are.1, inl (kind_passes stream state.kind are.0.taken.kind, refl))
+are_passed stream counted (other_round line found ∷ rounds) are = (found, are.0.message, passed_in rounds, are_passed stream counted rounds are.1, inr (other_stays stream found are.0.passed, refl))
+
 -- an event that is no start and no save
 pub record IsPlain (event : Event) : Type 0 where
   pub no_start : (plan : AttemptPlan) → event ≡ Started plan → ⊥
   pub no_save : (text : List ℕ) → event ≡ Saved text → ⊥
 
-abbrev pub IsAhead : List Event → List (List ℕ) → Type 0
-IsAhead events rest = reads events ≡ gives events ++ rest
+-- what stands so far: the lines of these rounds were read, and those that are passed on were given but for the rest
+pub record IsAt (stream : List ℕ) (rounds : List Round) (events : List Event) (rest : List (List ℕ)) : Type 0 where
+  pub fits : AreRounds stream none_counted rounds
+  pub read : reads events ≡ map round_line rounds
+  pub given : map heard_text (passed_in rounds) ≡ gives events ++ rest
 
-plain_so_far : (stream : List ℕ) (events : List Event) (event : Event) (rest : List (List ℕ)) → IsPlain event → IsAhead (events ++ event ∷ []) rest → IsSafeSoFar stream (events ++ event ∷ [])
-plain_so_far stream events event rest plain ahead = record {
-  given = (rest, ahead);
+gives_passed : (stream : List ℕ) (rounds : List Round) (events : List Event) (rest : List (List ℕ)) → IsAt stream rounds events rest → GivesPassed stream (reads events) (gives events)
+gives_passed stream rounds events rest at = record {
+  passed = passed_in rounds;
+  are = subst (λ (ls : List (List ℕ)). ArePassed stream ls (passed_in rounds)) (sym at.read) (are_passed stream none_counted rounds at.fits);
+  rest = rest;
+  splits = at.given;
+}
+
+plain_so_far : (stream : List ℕ) (rounds : List Round) (events : List Event) (event : Event) (rest : List (List ℕ)) → IsPlain event → IsAt stream rounds (events ++ event ∷ []) rest → IsSafeSoFar stream (events ++ event ∷ [])
+plain_so_far stream rounds events event rest plain at = record {
+  given = gives_passed stream rounds (events ++ event ∷ []) rest at;
   started = λ before plan e. absurd (plain.no_start plan (more_last events before event (Started plan) e));
   saved = λ before text e. absurd (plain.no_save text (more_last events before event (Saved text) e));
 }
 
-even_ahead : (events : List Event) → IsEven events → IsAhead events []
-even_ahead events even = even ∙ sym (append-nil (gives events))
-
--- an event that is no line, behind events in which all that was read was given
+-- an event that is no line
 pub record IsNeutral (event : Event) : Type 0 where
   pub plain : IsPlain event
   pub goes_on : (events : List Event) → attempt_after events event ≡ events ++ event ∷ []
   pub not_read : filter_map read_line (event ∷ []) ≡ []
   pub not_given : filter_map given_line (event ∷ []) ≡ []
 
-neutral_even : (events : List Event) (event : Event) → IsNeutral event → IsEven events → IsEven (events ++ event ∷ [])
-neutral_even events event neutral even =
-    (reads_more events event (neutral.goes_on (attempt events)) ∙ (ap (λ (ls : List (List ℕ)). reads events ++ ls) neutral.not_read ∙ (append-nil (reads events) ∙ (even ∙ sym (ap (λ (ls : List (List ℕ)). gives events ++ ls) neutral.not_given ∙ append-nil (gives events)))))) ∙ sym (gives_more events event (neutral.goes_on (attempt events)))
-
--- what stands so far: safe, and all that was read was given
-pub record IsSafeEven (stream : List ℕ) (events : List Event) : Type 0 where
+-- the events so far are safe, and all lines that are passed on were given
+pub record IsSafeEven (stream : List ℕ) (rounds : List Round) (events : List Event) : Type 0 where
   pub safe : IsSafeSync stream events
-  pub even : IsEven events
+  pub at : IsAt stream rounds events []
 
-pub neutral_more : (stream : List ℕ) (events : List Event) (event : Event) → IsNeutral event → IsSafeEven stream events → IsSafeEven stream (events ++ event ∷ [])
-neutral_more stream events event neutral s = record {
-  safe = safe_more stream events event s.safe (plain_so_far stream events event [] neutral.plain (even_ahead (events ++ event ∷ []) even));
-  even = even;
+stays_at : (stream : List ℕ) (rounds : List Round) (events : List Event) (event : Event) → attempt_after (attempt events) event ≡ attempt events ++ event ∷ [] → filter_map read_line (event ∷ []) ≡ [] → filter_map given_line (event ∷ []) ≡ [] → IsAt stream rounds events [] → IsAt stream rounds (events ++ event ∷ []) []
+stays_at stream rounds events event goes_on not_read not_given at = record {
+  fits = at.fits;
+  read = reads_more events event goes_on ∙ (ap (λ (ls : List (List ℕ)). reads events ++ ls) not_read ∙ (append-nil (reads events) ∙ at.read));
+  given = at.given ∙ sym (ap (λ (ls : List (List ℕ)). ls ++ []) (gives_more events event goes_on ∙ (ap (λ (ls : List (List ℕ)). gives events ++ ls) not_given ∙ append-nil (gives events))));
+}
+
+pub neutral_more : (stream : List ℕ) (rounds : List Round) (events : List Event) (event : Event) → IsNeutral event → IsSafeEven stream rounds events → IsSafeEven stream rounds (events ++ event ∷ [])
+neutral_more stream rounds events event neutral s = record {
+  safe = safe_more stream events event s.safe (plain_so_far stream rounds events event [] neutral.plain at);
+  at = at;
 }
   where
-    even : IsEven (events ++ event ∷ [])
-    even = neutral_even events event neutral s.even
+    at : IsAt stream rounds (events ++ event ∷ []) []
+    at = stays_at stream rounds events event (neutral.goes_on (attempt events)) neutral.not_read neutral.not_given s.at
 
 took_neutral : (line : List ℕ) → IsNeutral (Took line)
 took_neutral line = record { plain = record { no_start = λ plan e. cc; no_save = λ text e. cc }; goes_on = λ events. refl; not_read = refl; not_given = refl }
@@ -146,43 +199,78 @@ emitted_neutral line = record { plain = record { no_start = λ plan e. cc; no_sa
 got_neutral : (line : List ℕ) → IsNeutral (Got line)
 got_neutral line = record { plain = record { no_start = λ plan e. cc; no_save = λ text e. cc }; goes_on = λ events. refl; not_read = refl; not_given = refl }
 
--- a line is read, and then given
-pub line_more : (stream : List ℕ) (events : List Event) (line : List ℕ) → IsSafeEven stream events → IsSafeEven stream ((events ++ ReadLine line ∷ []) ++ Given line ∷ [])
-line_more stream events line s = record {
-  safe = safe_more stream (events ++ ReadLine line ∷ []) (Given line) read_safe (plain_so_far stream (events ++ ReadLine line ∷ []) (Given line) [] (record { no_start = λ plan e. cc; no_save = λ text e. cc }) (even_ahead ((events ++ ReadLine line ∷ []) ++ Given line ∷ []) even));
-  even = even;
+-- a line is read
+
+read_lines : (rounds : List Round) (round : Round) (events : List Event) → reads events ≡ map round_line rounds → reads (events ++ ReadLine (round_line round) ∷ []) ≡ map round_line (rounds ++ round ∷ [])
+read_lines rounds round events read = reads_more events (ReadLine (round_line round)) refl ∙ (ap (λ (ls : List (List ℕ)). ls ++ round_line round ∷ []) read ∙ sym (map-append round_line rounds (round ∷ [])))
+
+read_gives : (line : List ℕ) (events : List Event) → gives (events ++ ReadLine line ∷ []) ≡ gives events
+read_gives line events = gives_more events (ReadLine line) refl ∙ append-nil (gives events)
+
+given_so_far : (stream : List ℕ) (rounds : List Round) (events : List Event) → IsAt stream rounds events [] → map heard_text (passed_in rounds) ≡ gives events
+given_so_far stream rounds events at = at.given ∙ append-nil (gives events)
+
+read_plain : (line : List ℕ) → IsPlain (ReadLine line)
+read_plain line = record { no_start = λ plan e. cc; no_save = λ text e. cc }
+
+given_plain : (line : List ℕ) → IsPlain (Given line)
+given_plain line = record { no_start = λ plan e. cc; no_save = λ text e. cc }
+
+-- and passed over
+pub other_more : (stream : List ℕ) (rounds : List Round) (round : Round) (events : List Event) → AreRounds stream none_counted (rounds ++ round ∷ []) → passed_in (round ∷ []) ≡ [] → IsSafeEven stream rounds events → IsSafeEven stream (rounds ++ round ∷ []) (events ++ ReadLine (round_line round) ∷ [])
+other_more stream rounds round events fits over s = record {
+  safe = safe_more stream events (ReadLine (round_line round)) s.safe (plain_so_far stream (rounds ++ round ∷ []) events (ReadLine (round_line round)) [] (read_plain (round_line round)) at);
+  at = at;
 }
   where
-    read_reads : reads (events ++ ReadLine line ∷ []) ≡ reads events ++ line ∷ []
-    read_reads = reads_more events (ReadLine line) refl
+    at : IsAt stream (rounds ++ round ∷ []) (events ++ ReadLine (round_line round) ∷ []) []
+    at = record {
+      fits = fits;
+      read = read_lines rounds round events s.at.read;
+      given = ap (λ (hs : List Heard). map heard_text hs) (passed_append rounds (round ∷ []) ∙ (ap (λ (hs : List Heard). passed_in rounds ++ hs) over ∙ append-nil (passed_in rounds))) ∙ (given_so_far stream rounds events s.at ∙ sym (append-nil (gives (events ++ ReadLine (round_line round) ∷ [])) ∙ read_gives (round_line round) events));
+    }
 
-    read_gives : gives (events ++ ReadLine line ∷ []) ≡ gives events
-    read_gives = gives_more events (ReadLine line) refl ∙ append-nil (gives events)
+-- or given
+pub line_more : (stream : List ℕ) (rounds : List Round) (round : Round) (events : List Event) → AreRounds stream none_counted (rounds ++ round ∷ []) → passed_in (round ∷ []) ≡ heard_of round ∷ [] → IsSafeEven stream rounds events → IsSafeEven stream (rounds ++ round ∷ []) ((events ++ ReadLine (round_line round) ∷ []) ++ Given (round_line round) ∷ [])
+line_more stream rounds round events fits on s = record {
+  safe = safe_more stream (events ++ ReadLine (round_line round) ∷ []) (Given (round_line round)) read_safe (plain_so_far stream (rounds ++ round ∷ []) (events ++ ReadLine (round_line round) ∷ []) (Given (round_line round)) [] (given_plain (round_line round)) at);
+  at = at;
+}
+  where
+    all_given : map heard_text (passed_in (rounds ++ round ∷ [])) ≡ gives events ++ round_line round ∷ []
+    all_given =
+        ap (λ (hs : List Heard). map heard_text hs) (passed_append rounds (round ∷ []) ∙ ap (λ (hs : List Heard). passed_in rounds ++ hs) on) ∙ (map-append heard_text (passed_in rounds) (heard_of round ∷ []) ∙ ap (λ (ls : List (List ℕ)). ls ++ round_line round ∷ []) (given_so_far stream rounds events s.at))
 
-    ahead : IsAhead (events ++ ReadLine line ∷ []) (line ∷ [])
-    ahead = read_reads ∙ (ap (λ (ls : List (List ℕ)). ls ++ line ∷ []) s.even ∙ sym (ap (λ (ls : List (List ℕ)). ls ++ line ∷ []) read_gives))
+    read_at : IsAt stream (rounds ++ round ∷ []) (events ++ ReadLine (round_line round) ∷ []) (round_line round ∷ [])
+    read_at = record {
+      fits = fits;
+      read = read_lines rounds round events s.at.read;
+      given = all_given ∙ sym (ap (λ (ls : List (List ℕ)). ls ++ round_line round ∷ []) (read_gives (round_line round) events));
+    }
 
-    read_safe : IsSafeSync stream (events ++ ReadLine line ∷ [])
-    read_safe = safe_more stream events (ReadLine line) s.safe (plain_so_far stream events (ReadLine line) (line ∷ []) (record { no_start = λ plan e. cc; no_save = λ text e. cc }) ahead)
+    read_safe : IsSafeSync stream (events ++ ReadLine (round_line round) ∷ [])
+    read_safe = safe_more stream events (ReadLine (round_line round)) s.safe (plain_so_far stream (rounds ++ round ∷ []) events (ReadLine (round_line round)) (round_line round ∷ []) (read_plain (round_line round)) read_at)
 
-    even : IsEven ((events ++ ReadLine line ∷ []) ++ Given line ∷ [])
-    even =
-        (reads_more (events ++ ReadLine line ∷ []) (Given line) refl ∙ (append-nil (reads (events ++ ReadLine line ∷ [])) ∙ ahead)) ∙ sym (gives_more (events ++ ReadLine line ∷ []) (Given line) refl)
+    at : IsAt stream (rounds ++ round ∷ []) ((events ++ ReadLine (round_line round) ∷ []) ++ Given (round_line round) ∷ []) []
+    at = record {
+      fits = fits;
+      read = reads_more (events ++ ReadLine (round_line round) ∷ []) (Given (round_line round)) refl ∙ (append-nil (reads (events ++ ReadLine (round_line round) ∷ [])) ∙ read_lines rounds round events s.at.read);
+      given = all_given ∙ sym (append-nil (gives ((events ++ ReadLine (round_line round) ∷ []) ++ Given (round_line round) ∷ [])) ∙ (gives_more (events ++ ReadLine (round_line round) ∷ []) (Given (round_line round)) refl ∙ ap (λ (ls : List (List ℕ)). ls ++ round_line round ∷ []) (read_gives (round_line round) events)));
+    }
 
 -- a state is saved
-pub save_more : (stream : List ℕ) (events : List Event) (text : List ℕ) → IsSafeEven stream events → SavesNothing stream events text ⊎ SavesTaken stream events text → IsSafeEven stream (events ++ Saved text ∷ [])
-save_more stream events text s saves = record {
+pub save_more : (stream : List ℕ) (rounds : List Round) (events : List Event) (text : List ℕ) → IsSafeEven stream rounds events → SavesNothing stream events text ⊎ SavesTaken stream events text → IsSafeEven stream rounds (events ++ Saved text ∷ [])
+save_more stream rounds events text s saves = record {
   safe = safe_more stream events (Saved text) s.safe (record {
-    given = ([], even_ahead (events ++ Saved text ∷ []) even);
+    given = gives_passed stream rounds (events ++ Saved text ∷ []) [] at;
     started = λ before plan e. absurd (other plan (more_last events before (Saved text) (Started plan) e));
     saved = λ before other e. moved before other (more_front events before (Saved text) (Saved other) e) (same other (more_last events before (Saved text) (Saved other) e));
   });
-  even = even;
+  at = at;
 }
   where
-    even : IsEven (events ++ Saved text ∷ [])
-    even =
-        (reads_more events (Saved text) refl ∙ (append-nil (reads events) ∙ (s.even ∙ sym (append-nil (gives events))))) ∙ sym (gives_more events (Saved text) refl)
+    at : IsAt stream rounds (events ++ Saved text ∷ []) []
+    at = stays_at stream rounds events (Saved text) refl refl refl s.at
 
     other : (plan : AttemptPlan) → Saved text ≡ Started plan → ⊥
     other plan e = cc
@@ -195,12 +283,15 @@ save_more stream events text s saves = record {
 
 -- before the first line
 
-none_safe : (stream : List ℕ) → IsSafeEven stream []
-none_safe stream = record { safe = safe; even = refl }
+none_at : (stream : List ℕ) → IsAt stream [] [] []
+none_at stream = record { fits = tt; read = refl; given = refl }
+
+none_safe : (stream : List ℕ) → IsSafeEven stream [] []
+none_safe stream = record { safe = safe; at = none_at stream }
   where
     so_far : IsSafeSoFar stream []
     so_far = record {
-      given = ([], refl);
+      given = gives_passed stream [] [] [] (none_at stream);
       started = λ before plan e. absurd (nil_more before (Started plan) e);
       saved = λ before text e. absurd (nil_more before (Saved text) e);
     }
@@ -216,20 +307,23 @@ none_safe stream = record { safe = safe; even = refl }
 abbrev opened_events : List ℕ → List Event
 opened_events stream = Opened 1 0 (stream_plan stream ∷ []) ∷ Saved (store_text stream None) ∷ []
 
-opened_safe : (stream : List ℕ) → IsSafeEven stream (opened_events stream)
-opened_safe stream = save_more stream (Opened 1 0 (stream_plan stream ∷ []) ∷ []) (store_text stream None) (neutral_more stream [] (Opened 1 0 (stream_plan stream ∷ [])) opened_neutral (none_safe stream)) (inl (record { first = refl; is = refl }))
+opened_safe : (stream : List ℕ) → IsSafeEven stream [] (opened_events stream)
+opened_safe stream = save_more stream [] (Opened 1 0 (stream_plan stream ∷ []) ∷ []) (store_text stream None) (neutral_more stream [] [] (Opened 1 0 (stream_plan stream ∷ [])) opened_neutral (none_safe stream)) (inl (record { first = refl; is = refl }))
   where
     opened_neutral : IsNeutral (Opened 1 0 (stream_plan stream ∷ []))
     opened_neutral = record { plain = record { no_start = λ plan e. cc; no_save = λ t e. cc }; goes_on = λ events. refl; not_read = refl; not_given = refl }
 
-pub first_safe : (stream : List ℕ) → IsSafeEven stream (first_events stream)
+first_at : (stream : List ℕ) → IsAt stream [] (first_events stream) []
+first_at stream = record { fits = tt; read = refl; given = refl }
+
+pub first_safe : (stream : List ℕ) → IsSafeEven stream [] (first_events stream)
 first_safe stream = record {
   safe = safe_more stream (opened_events stream) (Started attempt_plan) (opened_safe stream).safe (record {
-    given = ([], refl);
+    given = gives_passed stream [] (first_events stream) [] (first_at stream);
     started = λ before plan e. moved before plan (more_front (opened_events stream) before (Started attempt_plan) (Started plan) e) (same plan (more_last (opened_events stream) before (Started attempt_plan) (Started plan) e));
     saved = λ before other e. absurd (no_save other (more_last (opened_events stream) before (Started attempt_plan) (Saved other) e));
   });
-  even = refl;
+  at = first_at stream;
 }
   where
     same : (plan : AttemptPlan) → Started attempt_plan ≡ Started plan → attempt_plan ≡ plan
@@ -263,6 +357,7 @@ rounds_start_nothing : (stream : List ℕ) (counted : Counted) (rounds : List Ro
 rounds_start_nothing stream counted [] = tt
 rounds_start_nothing stream counted (record_round line content ∷ rounds) = rounds_start_nothing stream (counted_after counted (record_round line content)) rounds
 rounds_start_nothing stream counted (state_round line state echo ∷ rounds) = rounds_start_nothing stream (counted_after counted (state_round line state echo)) rounds
+rounds_start_nothing stream counted (other_round line found ∷ rounds) = rounds_start_nothing stream counted rounds
 
 attempt_is : (stream : List ℕ) (events : List Event) → HasNoStart events → attempt (first_events stream ++ events) ≡ events
 attempt_is stream events none = attempt_behind [] events none
@@ -272,50 +367,52 @@ abbrev echoes_of : List Round → List (List ℕ)
 echoes_of [] = []
 echoes_of (record_round line content ∷ rounds) = echoes_of rounds
 echoes_of (state_round line state echo ∷ rounds) = echo ∷ echoes_of rounds
+echoes_of (other_round line found ∷ rounds) = echoes_of rounds
 
-abbrev records_of : List Message → List RecordMsg
-records_of [] = []
-records_of (message.Rec content ∷ messages) = content ∷ records_of messages
-records_of (message.State state ∷ messages) = records_of messages
+abbrev records_in : List Round → List RecordMsg
+records_in [] = []
+records_in (record_round line content ∷ rounds) = content ∷ records_in rounds
+records_in (state_round line state echo ∷ rounds) = records_in rounds
+records_in (other_round line found ∷ rounds) = records_in rounds
 
 rounds_reads : (stream : List ℕ) (counted : Counted) (rounds : List Round) → filter_map read_line (rounds_events stream counted rounds) ≡ map round_line rounds
 rounds_reads stream counted [] = refl
 rounds_reads stream counted (record_round line content ∷ rounds) = ap (λ (ls : List (List ℕ)). line ∷ ls) (rounds_reads stream (counted_after counted (record_round line content)) rounds)
 rounds_reads stream counted (state_round line state echo ∷ rounds) = ap (λ (ls : List (List ℕ)). line ∷ ls) (rounds_reads stream (counted_after counted (state_round line state echo)) rounds)
+rounds_reads stream counted (other_round line found ∷ rounds) = ap (λ (ls : List (List ℕ)). line ∷ ls) (rounds_reads stream counted rounds)
 
 rounds_got : (stream : List ℕ) (counted : Counted) (rounds : List Round) → filter_map got_line (rounds_events stream counted rounds) ≡ echoes_of rounds
 rounds_got stream counted [] = refl
 rounds_got stream counted (record_round line content ∷ rounds) = rounds_got stream (counted_after counted (record_round line content)) rounds
 rounds_got stream counted (state_round line state echo ∷ rounds) = ap (λ (ls : List (List ℕ)). echo ∷ ls) (rounds_got stream (counted_after counted (state_round line state echo)) rounds)
+rounds_got stream counted (other_round line found ∷ rounds) = rounds_got stream counted rounds
 
 -- the rows of these records, numbered from here on
 abbrev rows_from : ℕ → List RecordMsg → List RawRow
 rows_from number [] = []
 rows_from number (content ∷ contents) = row_of number content ∷ rows_from (number + 1) contents
 
-rounds_rows : (stream : List ℕ) (counted : Counted) (rounds : List Round) → flat_map rows_of (rounds_events stream counted rounds) ≡ rows_from counted.records (records_of (messages_of rounds))
+rounds_rows : (stream : List ℕ) (counted : Counted) (rounds : List Round) → flat_map rows_of (rounds_events stream counted rounds) ≡ rows_from counted.records (records_in rounds)
 rounds_rows stream counted [] = refl
 rounds_rows stream counted (record_round line content ∷ rounds) = ap (λ (rows : List RawRow). row_of counted.records content ∷ rows) (rounds_rows stream (counted_after counted (record_round line content)) rounds)
 rounds_rows stream counted (state_round line state echo ∷ rounds) = rounds_rows stream (counted_after counted (state_round line state echo)) rounds
-
-are_messages : (stream : List ℕ) (counted : Counted) (rounds : List Round) → AreRounds stream counted rounds → AreMessages (map round_line rounds) (messages_of rounds)
-are_messages stream counted [] are = tt
-are_messages stream counted (record_round line content ∷ rounds) are = (are.0.message.is, are_messages stream (counted_after counted (record_round line content)) rounds are.1)
-are_messages stream counted (state_round line state echo ∷ rounds) are = (are.0.message.is, are_messages stream (counted_after counted (state_round line state echo)) rounds are.1)
+rounds_rows stream counted (other_round line found ∷ rounds) = rounds_rows stream counted rounds
 
 -- each echo takes its own state
-takes_all : (stream : List ℕ) (counted : Counted) (rounds : List Round) (before : List RecordMsg) → AreRounds stream counted rounds → Takes (echoes_of rounds) (states_behind before (messages_of rounds)) (states_behind before (messages_of rounds))
+takes_all : (stream : List ℕ) (counted : Counted) (rounds : List Round) (before : List RecordMsg) → AreRounds stream counted rounds → Takes (echoes_of rounds) (states_behind before (passed_in rounds)) (states_behind before (passed_in rounds))
 takes_all stream counted [] before are = refl
 takes_all stream counted (record_round line content ∷ rounds) before are = takes_all stream (counted_after counted (record_round line content)) rounds (before ++ content ∷ []) are.1
 takes_all stream counted (state_round line state echo ∷ rounds) before are =
-    let behind = states_behind before (messages_of rounds) in
+    let behind = states_behind before (passed_in rounds) in
     ([], record { state = state; before = before }, behind, behind, refl, tt, (counted.since, are.0.echoed), refl, takes_all stream (counted_after counted (state_round line state echo)) rounds before are.1)
+takes_all stream counted (other_round line found ∷ rounds) before are = takes_all stream counted rounds before are.1
 
-states_behind-state : (before : List RecordMsg) (messages : List Message) (state : StateMsg) → states_behind before (messages ++ message.State state ∷ []) ≡ states_behind before messages ++ record { state = state; before = before ++ records_of messages } ∷ []
-states_behind-state before [] state = ap (λ (contents : List RecordMsg). record { state = state; before = contents } ∷ []) (sym (append-nil before))
-states_behind-state before (message.Rec content ∷ messages) state =
-    states_behind-state (before ++ content ∷ []) messages state ∙ ap (λ (contents : List RecordMsg). states_behind (before ++ content ∷ []) messages ++ record { state = state; before = contents } ∷ []) (append_assoc before (content ∷ []) (records_of messages))
-states_behind-state before (message.State other ∷ messages) state = ap (λ (states : List ReadState). record { state = other; before = before } ∷ states) (states_behind-state before messages state)
+states_behind-state : (before : List RecordMsg) (rounds : List Round) (line : List ℕ) (state : StateMsg) (echo : List ℕ) → states_behind before (passed_in (rounds ++ state_round line state echo ∷ [])) ≡ states_behind before (passed_in rounds) ++ record { state = state; before = before ++ records_in rounds } ∷ []
+states_behind-state before [] line state echo = ap (λ (contents : List RecordMsg). record { state = state; before = contents } ∷ []) (sym (append-nil before))
+states_behind-state before (record_round l content ∷ rounds) line state echo =
+    states_behind-state (before ++ content ∷ []) rounds line state echo ∙ ap (λ (contents : List RecordMsg). states_behind (before ++ content ∷ []) (passed_in rounds) ++ record { state = state; before = contents } ∷ []) (append_assoc before (content ∷ []) (records_in rounds))
+states_behind-state before (state_round l other e ∷ rounds) line state echo = ap (λ (states : List ReadState). record { state = other; before = before } ∷ states) (states_behind-state before rounds line state echo)
+states_behind-state before (other_round l found ∷ rounds) line state echo = states_behind-state before rounds line state echo
 
 -- each record stands among the rows under its number
 each_row : (rows : List RawRow) (state : StateMsg) (number : ℕ) (contents : List RecordMsg) → ((row : RawRow) → Contains (rows_from number contents) row → Contains rows row) → AllByRecursion (λ numbered. Covers state numbered.1 → Contains rows (row_of numbered.0 numbered.1)) (enumerate_from number contents)
@@ -339,13 +436,13 @@ and_state rounds line state echo = rounds ++ state_round line state echo ∷ []
 
 saves_state : (stream line echo : List ℕ) (rounds : List Round) (state : StateMsg) → AreRounds stream none_counted rounds → FitsState stream (counted_through none_counted rounds).since line state echo → SavesTaken stream (first_events stream ++ (rounds_events stream none_counted rounds ++ front_of_state line echo)) (store_text stream (Some state.object))
 saves_state stream line echo rounds state are fits = record {
-  messages = messages_of (and_state rounds line state echo);
-  are = subst (λ (ls : List (List ℕ)). AreMessages ls (messages_of (and_state rounds line state echo))) (sym read) (are_messages stream none_counted (and_state rounds line state echo) are_all);
-  taken = states_behind [] (messages_of rounds);
-  last = record { state = state; before = records_of (messages_of rounds) };
-  takes = subst (λ (ls : List (List ℕ)). Takes ls (states_behind [] (messages_of (and_state rounds line state echo))) (states_behind [] (messages_of rounds) ++ record { state = state; before = records_of (messages_of rounds) } ∷ [])) (sym got) (subst (λ (ss : List ReadState). Takes (echoes_of (and_state rounds line state echo)) (states_behind [] (messages_of (and_state rounds line state echo))) ss) states (takes_all stream none_counted (and_state rounds line state echo) [] are_all));
+  passed = passed_in (and_state rounds line state echo);
+  are = subst (λ (ls : List (List ℕ)). ArePassed stream ls (passed_in (and_state rounds line state echo))) (sym read) (are_passed stream none_counted (and_state rounds line state echo) are_all);
+  taken = states_behind [] (passed_in rounds);
+  last = record { state = state; before = records_in rounds };
+  takes = subst (λ (ls : List (List ℕ)). Takes ls (states_behind [] (passed_in (and_state rounds line state echo))) (states_behind [] (passed_in rounds) ++ record { state = state; before = records_in rounds } ∷ [])) (sym got) (subst (λ (ss : List ReadState). Takes (echoes_of (and_state rounds line state echo)) (states_behind [] (passed_in (and_state rounds line state echo))) ss) states (takes_all stream none_counted (and_state rounds line state echo) [] are_all));
   is = refl;
-  committed = each_row (flat_map rows_of (attempt (first_events stream ++ (rounds_events stream none_counted rounds ++ front_of_state line echo)))) state 0 (records_of (messages_of rounds)) (λ row within. subst (λ (rows : List RawRow). Contains rows row) (sym rows_are) within);
+  committed = each_row (flat_map rows_of (attempt (first_events stream ++ (rounds_events stream none_counted rounds ++ front_of_state line echo)))) state 0 (records_in rounds) (λ row within. subst (λ (rows : List RawRow). Contains rows row) (sym rows_are) within);
 }
   where
     are_all : AreRounds stream none_counted (rounds ++ state_round line state echo ∷ [])
@@ -366,49 +463,51 @@ saves_state stream line echo rounds state are fits = record {
         echoes_more [] = refl
         echoes_more (record_round l content ∷ rs) = echoes_more rs
         echoes_more (state_round l s e ∷ rs) = ap (λ (ls : List (List ℕ)). e ∷ ls) (echoes_more rs)
+        echoes_more (other_round l found ∷ rs) = echoes_more rs
 
-    states : states_behind [] (messages_of (rounds ++ state_round line state echo ∷ [])) ≡ states_behind [] (messages_of rounds) ++ record { state = state; before = records_of (messages_of rounds) } ∷ []
-    states = ap (λ (ms : List Message). states_behind [] ms) (messages_of-more rounds (state_round line state echo)) ∙ states_behind-state [] (messages_of rounds) state
+    states : states_behind [] (passed_in (rounds ++ state_round line state echo ∷ [])) ≡ states_behind [] (passed_in rounds) ++ record { state = state; before = records_in rounds } ∷ []
+    states = states_behind-state [] rounds line state echo
 
-    rows_are : flat_map rows_of (attempt (first_events stream ++ (rounds_events stream none_counted rounds ++ front_of_state line echo))) ≡ rows_from 0 (records_of (messages_of rounds))
+    rows_are : flat_map rows_of (attempt (first_events stream ++ (rounds_events stream none_counted rounds ++ front_of_state line echo))) ≡ rows_from 0 (records_in rounds)
     rows_are =
         ap (λ (es : List Event). flat_map rows_of es) attempt_events ∙ (flat_map-append rows_of (rounds_events stream none_counted rounds) (front_of_state line echo) ∙ (append-nil (flat_map rows_of (rounds_events stream none_counted rounds)) ∙ rounds_rows stream none_counted rounds))
 
 -- one line more, behind those that were taken
-record_more : (stream line : List ℕ) (events : List Event) (number : ℕ) (content : RecordMsg) → IsSafeEven stream events → IsSafeEven stream (events ++ record_events line number content)
-record_more stream line events number content s =
-    subst (λ (es : List Event). IsSafeEven stream es) regrouped (neutral_more stream (((events ++ ReadLine line ∷ []) ++ Given line ∷ []) ++ Took line ∷ []) (Committed 0 (row_of number content ∷ [])) (committed_neutral 0 (row_of number content ∷ [])) (neutral_more stream ((events ++ ReadLine line ∷ []) ++ Given line ∷ []) (Took line) (took_neutral line) (line_more stream events line s)))
+record_more : (stream line : List ℕ) (rounds : List Round) (events : List Event) (number : ℕ) (content : RecordMsg) → AreRounds stream none_counted (rounds ++ record_round line content ∷ []) → IsSafeEven stream rounds events → IsSafeEven stream (rounds ++ record_round line content ∷ []) (events ++ record_events line number content)
+record_more stream line rounds events number content fits s =
+    subst (λ (es : List Event). IsSafeEven stream (rounds ++ record_round line content ∷ []) es) regrouped (neutral_more stream (rounds ++ record_round line content ∷ []) (((events ++ ReadLine line ∷ []) ++ Given line ∷ []) ++ Took line ∷ []) (Committed 0 (row_of number content ∷ [])) (committed_neutral 0 (row_of number content ∷ [])) (neutral_more stream (rounds ++ record_round line content ∷ []) ((events ++ ReadLine line ∷ []) ++ Given line ∷ []) (Took line) (took_neutral line) (line_more stream rounds (record_round line content) events fits refl s)))
   where
     regrouped : (((events ++ ReadLine line ∷ []) ++ Given line ∷ []) ++ Took line ∷ []) ++ Committed 0 (row_of number content ∷ []) ∷ [] ≡ events ++ record_events line number content
     regrouped = simp append_assoc
 
-state_more : (stream line echo : List ℕ) (events : List Event) (object : List ℕ) → IsSafeEven stream events → SavesTaken stream (events ++ front_of_state line echo) (store_text stream (Some object)) → IsSafeEven stream (events ++ state_events stream line object echo)
-state_more stream line echo events object s saves =
-    subst (λ (es : List Event). IsSafeEven stream es) ended (save_more stream (events ++ front_of_state line echo) (store_text stream (Some object)) (subst (λ (es : List Event). IsSafeEven stream es) regrouped got) (inr saves))
+state_more : (stream line echo : List ℕ) (rounds : List Round) (events : List Event) (state : StateMsg) → AreRounds stream none_counted (and_state rounds line state echo) → IsSafeEven stream rounds events → SavesTaken stream (events ++ front_of_state line echo) (store_text stream (Some state.object)) → IsSafeEven stream (and_state rounds line state echo) (events ++ state_events stream line state.object echo)
+state_more stream line echo rounds events state fits s saves =
+    subst (λ (es : List Event). IsSafeEven stream (and_state rounds line state echo) es) ended (save_more stream (and_state rounds line state echo) (events ++ front_of_state line echo) (store_text stream (Some state.object)) (subst (λ (es : List Event). IsSafeEven stream (and_state rounds line state echo) es) regrouped got) (inr saves))
   where
-    got : IsSafeEven stream (((((events ++ ReadLine line ∷ []) ++ Given line ∷ []) ++ Took line ∷ []) ++ Emitted echo ∷ []) ++ Got echo ∷ [])
-    got = neutral_more stream ((((events ++ ReadLine line ∷ []) ++ Given line ∷ []) ++ Took line ∷ []) ++ Emitted echo ∷ []) (Got echo) (got_neutral echo) (neutral_more stream (((events ++ ReadLine line ∷ []) ++ Given line ∷ []) ++ Took line ∷ []) (Emitted echo) (emitted_neutral echo) (neutral_more stream ((events ++ ReadLine line ∷ []) ++ Given line ∷ []) (Took line) (took_neutral line) (line_more stream events line s)))
+    got : IsSafeEven stream (and_state rounds line state echo) (((((events ++ ReadLine line ∷ []) ++ Given line ∷ []) ++ Took line ∷ []) ++ Emitted echo ∷ []) ++ Got echo ∷ [])
+    got = neutral_more stream (and_state rounds line state echo) ((((events ++ ReadLine line ∷ []) ++ Given line ∷ []) ++ Took line ∷ []) ++ Emitted echo ∷ []) (Got echo) (got_neutral echo) (neutral_more stream (and_state rounds line state echo) (((events ++ ReadLine line ∷ []) ++ Given line ∷ []) ++ Took line ∷ []) (Emitted echo) (emitted_neutral echo) (neutral_more stream (and_state rounds line state echo) ((events ++ ReadLine line ∷ []) ++ Given line ∷ []) (Took line) (took_neutral line) (line_more stream rounds (state_round line state echo) events fits refl s)))
 
     regrouped : ((((events ++ ReadLine line ∷ []) ++ Given line ∷ []) ++ Took line ∷ []) ++ Emitted echo ∷ []) ++ Got echo ∷ [] ≡ events ++ front_of_state line echo
     regrouped = simp append_assoc
 
-    ended : (events ++ front_of_state line echo) ++ Saved (store_text stream (Some object)) ∷ [] ≡ events ++ state_events stream line object echo
-    ended = append_assoc events (front_of_state line echo) (Saved (store_text stream (Some object)) ∷ [])
+    ended : (events ++ front_of_state line echo) ++ Saved (store_text stream (Some state.object)) ∷ [] ≡ events ++ state_events stream line state.object echo
+    ended = append_assoc events (front_of_state line echo) (Saved (store_text stream (Some state.object)) ∷ [])
 
-round_more : (stream : List ℕ) (rounds : List Round) (round : Round) → AreRounds stream none_counted rounds → Fits stream (counted_through none_counted rounds) round → IsSafeEven stream (first_events stream ++ rounds_events stream none_counted rounds) → IsSafeEven stream ((first_events stream ++ rounds_events stream none_counted rounds) ++ round_events stream (counted_through none_counted rounds) round)
-round_more stream rounds (record_round line content) are fits s = record_more stream line (first_events stream ++ rounds_events stream none_counted rounds) (counted_through none_counted rounds).records content s
+round_more : (stream : List ℕ) (rounds : List Round) (round : Round) → AreRounds stream none_counted rounds → Fits stream (counted_through none_counted rounds) round → IsSafeEven stream rounds (first_events stream ++ rounds_events stream none_counted rounds) → IsSafeEven stream (rounds ++ round ∷ []) ((first_events stream ++ rounds_events stream none_counted rounds) ++ round_events stream (counted_through none_counted rounds) round)
+round_more stream rounds (record_round line content) are fits s = record_more stream line rounds (first_events stream ++ rounds_events stream none_counted rounds) (counted_through none_counted rounds).records content (AreRounds-more stream none_counted rounds (record_round line content) are fits) s
 round_more stream rounds (state_round line state echo) are fits s =
-    state_more stream line echo (first_events stream ++ rounds_events stream none_counted rounds) state.object s (subst (λ (es : List Event). SavesTaken stream es (store_text stream (Some state.object))) (sym (append_assoc (first_events stream) (rounds_events stream none_counted rounds) (front_of_state line echo))) (saves_state stream line echo rounds state are fits))
+    state_more stream line echo rounds (first_events stream ++ rounds_events stream none_counted rounds) state (AreRounds-more stream none_counted rounds (state_round line state echo) are fits) s (subst (λ (es : List Event). SavesTaken stream es (store_text stream (Some state.object))) (sym (append_assoc (first_events stream) (rounds_events stream none_counted rounds) (front_of_state line echo))) (saves_state stream line echo rounds state are fits))
+round_more stream rounds (other_round line found) are fits s = other_more stream rounds (other_round line found) (first_events stream ++ rounds_events stream none_counted rounds) (AreRounds-more stream none_counted rounds (other_round line found) are fits) refl s
 
 -- all lines that were taken
-rounds_safe : (stream : List ℕ) (done todo : List Round) → AreRounds stream none_counted done → AreRounds stream (counted_through none_counted done) todo → IsSafeEven stream (first_events stream ++ rounds_events stream none_counted done) → IsSafeEven stream (first_events stream ++ rounds_events stream none_counted (done ++ todo))
-rounds_safe stream done [] are rest s = subst (λ (rs : List Round). IsSafeEven stream (first_events stream ++ rounds_events stream none_counted rs)) (sym (append-nil done)) s
+rounds_safe : (stream : List ℕ) (done todo : List Round) → AreRounds stream none_counted done → AreRounds stream (counted_through none_counted done) todo → IsSafeEven stream done (first_events stream ++ rounds_events stream none_counted done) → IsSafeEven stream (done ++ todo) (first_events stream ++ rounds_events stream none_counted (done ++ todo))
+rounds_safe stream done [] are rest s = subst (λ (rs : List Round). IsSafeEven stream rs (first_events stream ++ rounds_events stream none_counted rs)) (sym (append-nil done)) s
 rounds_safe stream done (round ∷ todo) are rest s =
-    subst (λ (rs : List Round). IsSafeEven stream (first_events stream ++ rounds_events stream none_counted rs)) (append_assoc done (round ∷ []) todo) (rounds_safe stream (done ++ round ∷ []) todo (AreRounds-more stream none_counted done round are rest.0) (subst (λ (c : Counted). AreRounds stream c todo) (sym (counted_through-more none_counted done round)) rest.1) one_more)
+    subst (λ (rs : List Round). IsSafeEven stream rs (first_events stream ++ rounds_events stream none_counted rs)) (append_assoc done (round ∷ []) todo) (rounds_safe stream (done ++ round ∷ []) todo (AreRounds-more stream none_counted done round are rest.0) (subst (λ (c : Counted). AreRounds stream c todo) (sym (counted_through-more none_counted done round)) rest.1) one_more)
   where
-    one_more : IsSafeEven stream (first_events stream ++ rounds_events stream none_counted (done ++ round ∷ []))
+    one_more : IsSafeEven stream (done ++ round ∷ []) (first_events stream ++ rounds_events stream none_counted (done ++ round ∷ []))
     one_more =
-        subst (λ (es : List Event). IsSafeEven stream es) (append_assoc (first_events stream) (rounds_events stream none_counted done) (round_events stream (counted_through none_counted done) round) ∙ ap (λ (es : List Event). first_events stream ++ es) (sym (rounds_events-more stream none_counted done round))) (round_more stream done round are rest.0 s)
+        subst (λ (es : List Event). IsSafeEven stream (done ++ round ∷ []) es) (append_assoc (first_events stream) (rounds_events stream none_counted done) (round_events stream (counted_through none_counted done) round) ∙ ap (λ (es : List Event). first_events stream ++ es) (sym (rounds_events-more stream none_counted done round))) (round_more stream done round are rest.0 s)
 
 -- the end of the attempt
 neutral_read_end : IsNeutral ReadEnd
@@ -429,18 +528,18 @@ neutral_ended ends = record { plain = record { no_start = λ plan e. cc; no_save
 abbrev both_ended : Codes
 both_ended = record { source = Some (exit.Code 0); dest = Some (exit.Code 0) }
 
-ending_safe : (stream : List ℕ) (events : List Event) (is_over : Bool) → IsSafeEven stream events → IsSafeEven stream (events ++ ending_events is_over)
-ending_safe stream events true s =
-    subst (λ (es : List Event). IsSafeEven stream es) regrouped (neutral_more stream ((((events ++ ReadEnd ∷ []) ++ Closed ∷ []) ++ TookEnd ∷ []) ++ GotEnd ∷ []) (Ended both_ended) (neutral_ended both_ended) (neutral_more stream (((events ++ ReadEnd ∷ []) ++ Closed ∷ []) ++ TookEnd ∷ []) GotEnd neutral_got_end (neutral_more stream ((events ++ ReadEnd ∷ []) ++ Closed ∷ []) TookEnd neutral_took_end (neutral_more stream (events ++ ReadEnd ∷ []) Closed neutral_closed (neutral_more stream events ReadEnd neutral_read_end s)))))
+ending_safe : (stream : List ℕ) (rounds : List Round) (events : List Event) (is_over : Bool) → IsSafeEven stream rounds events → IsSafeEven stream rounds (events ++ ending_events is_over)
+ending_safe stream rounds events true s =
+    subst (λ (es : List Event). IsSafeEven stream rounds es) regrouped (neutral_more stream rounds ((((events ++ ReadEnd ∷ []) ++ Closed ∷ []) ++ TookEnd ∷ []) ++ GotEnd ∷ []) (Ended both_ended) (neutral_ended both_ended) (neutral_more stream rounds (((events ++ ReadEnd ∷ []) ++ Closed ∷ []) ++ TookEnd ∷ []) GotEnd neutral_got_end (neutral_more stream rounds ((events ++ ReadEnd ∷ []) ++ Closed ∷ []) TookEnd neutral_took_end (neutral_more stream rounds (events ++ ReadEnd ∷ []) Closed neutral_closed (neutral_more stream rounds events ReadEnd neutral_read_end s)))))
   where
     regrouped : ((((events ++ ReadEnd ∷ []) ++ Closed ∷ []) ++ TookEnd ∷ []) ++ GotEnd ∷ []) ++ Ended both_ended ∷ [] ≡ events ++ last_events
     regrouped = simp append_assoc
-ending_safe stream events false s = subst (λ (es : List Event). IsSafeEven stream es) (sym (append-nil events)) s
+ending_safe stream rounds events false s = subst (λ (es : List Event). IsSafeEven stream rounds es) (sym (append-nil events)) s
 
 -- the events of a world that is reached are a safe sync
 pub reached_safe : (world : World) → IsReached world → IsSafeSync world.stream world.events
 reached_safe world r =
-    subst (λ (es : List Event). IsSafeSync world.stream es) (sym r.events) (ending_safe world.stream (first_events world.stream ++ rounds_events world.stream none_counted r.rounds) world.is_over (rounds_safe world.stream [] r.rounds tt r.fits started)).safe
+    subst (λ (es : List Event). IsSafeSync world.stream es) (sym r.events) (ending_safe world.stream r.rounds (first_events world.stream ++ rounds_events world.stream none_counted r.rounds) world.is_over (rounds_safe world.stream [] r.rounds tt r.fits started)).safe
   where
-    started : IsSafeEven world.stream (first_events world.stream ++ [])
-    started = subst (λ (es : List Event). IsSafeEven world.stream es) (sym (append-nil (first_events world.stream))) (first_safe world.stream)
+    started : IsSafeEven world.stream [] (first_events world.stream ++ [])
+    started = subst (λ (es : List Event). IsSafeEven world.stream [] es) (sym (append-nil (first_events world.stream))) (first_safe world.stream)

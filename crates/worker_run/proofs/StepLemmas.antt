@@ -1,13 +1,14 @@
 -- What a step does, over the parts of a plain world.
-use Rattle.std.proofs.Common.{◌≡◌, ℕ, ◌+◌, ◌<◌, ◌≤◌, List, ◌∷◌, ◌++◌, length, Bool, drop, slice_range, refl, sym, ◌∙◌, ap, subst, arith}
+use Rattle.std.proofs.Common.{◌≡◌, ℕ, ◌+◌, ◌<◌, ◌≤◌, List, [], ◌∷◌, ◌++◌, length, Option, Bool, drop, slice_range, refl, sym, ◌∙◌, ap, subst, arith}
 use Rattle.text_lines.specs.Lines.{lines_of}
 use Rattle.outside.specs.declared.event.Event.{Event}
+use Rattle.outside.specs.declared.event.Event.TheVariants.{ReadLine}
 use Rattle.airbyte_message.specs.declared.message.RecordMsg.{RecordMsg}
 use Rattle.airbyte_message.specs.declared.message.StateMsg.{StateMsg}
 use Rattle.worker_run.specs.Bounds.{IsBounded}
 use Rattle.worker_run.specs.Rounds.{record_round, state_round, FitsRecord, IsUnbuilt}
 use Rattle.worker_run.specs.World.{World, record_events, state_events}
-use Rattle.worker_run.specs.Steps.{TakesRecord, TakesState, Refuses, IsFitState, AddsState}
+use Rattle.worker_run.specs.Steps.{TakesRecord, TakesState, TakesOther, PassesOver, Refuses, IsFitState, AddsState}
 
 -- the world of these parts
 abbrev pub world_of : List ℕ → List ℕ → ℕ → ℕ → ℕ → ℕ → List Event → Bool → World
@@ -50,6 +51,22 @@ takes_state stream text line object at end number records since events events' i
       fits = record { short = fits.short; message = fits.message; taken = fits.taken; echoed = adds.echoed };
       saved = is;
       after = ap (λ (es : List Event). world_of stream text end (number + 1) records 0 es is_over) adds.added;
+    }
+
+pub bounded_other : (text text' : List ℕ) (at number records since start end : ℕ) → text' ≡ text → IsBounded at number records since (length text) → (at ≤ start) × (start < end) × (end ≤ length text') → IsBounded end (number + 1) records since (length text)
+bounded_other text text' at number records since start end same bounded place =
+    let size = ap length same in record { inside = omega (arith, place.2, size); lines = omega (arith, bounded.lines, place.0, place.1); rows = omega (arith, bounded.rows); few = omega (arith, bounded.few) }
+
+pub takes_other : (stream text line : List ℕ) (at end number records since : ℕ) (events events' : List Event) (is_over : Bool) (said : Option (List ℕ)) (old : World) → world_of stream text at number records since events is_over ≡ old → lines_of (drop at text) ≡ line ∷ lines_of (drop end text) → PassesOver line said → events' ≡ events ++ ReadLine line ∷ [] → TakesOther old said (world_of stream text end (number + 1) records since events' is_over)
+takes_other stream text line at end number records since events events' is_over said old view next over added =
+    subst (λ (w : World). TakesOther w said (world_of stream text end (number + 1) records since events' is_over)) view record {
+      line = line;
+      found = over.found;
+      rest = lines_of (drop end text);
+      next = next;
+      fits = over.fits;
+      is = over.is;
+      after = ap (λ (es : List Event). world_of stream text end (number + 1) records since es is_over) added;
     }
 
 pub refuses : (stream text line : List ℕ) (at end number records since : ℕ) (events : List Event) (is_over : Bool) (old : World) → world_of stream text at number records since events is_over ≡ old → lines_of (drop at text) ≡ line ∷ lines_of (drop end text) → IsUnbuilt stream since line → Refuses old (number + 1)

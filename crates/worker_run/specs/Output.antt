@@ -1,14 +1,22 @@
--- What the worker says: a function of the messages that the lines of a file are, and of how the attempt ended.
-use Rattle.std.specs.Prelude.{ℕ, List, [], ◌∷◌, ◌++◌, length, flat_map, map, codes}
+-- What the worker says: a function of the lines of a file with the messages that they are, and of how the attempt ended.
+use Rattle.std.specs.Prelude.{◌≡◌, ℕ, List, [], ◌∷◌, ◌++◌, length, flat_map, map, Option, None, Some, nat_lt, if◌then◌else◌, codes}
+use Rattle.std.specs.List.{filter_map}
 use Rattle.std.specs.Fmt.{decimal}
 use Rattle.outside.specs.Status.{status_text}
 use Rattle.outside.specs.declared.status.Status.{Status}
 use Rattle.outside.specs.declared.status.Status.TheVariants as status
+use Rattle.outside.specs.Desk.{SaidOrNot}
 use Rattle.outside.specs.declared.event.Event.{Event}
 use Rattle.outside.specs.declared.event.RawRow.{RawRow}
 use Rattle.worker_run.specs.EventParts.{rows_of}
 use Rattle.airbyte_message.specs.declared.message.Message.{Message}
 use Rattle.airbyte_message.specs.declared.message.Message.TheVariants as message
+use Rattle.airbyte_message.specs.declared.message.TraceMsg.{TraceMsg}
+use Rattle.airbyte_message.specs.declared.message.TraceMsg.TheVariants as trace
+use Rattle.airbyte_message.specs.declared.failure_type.FailureType.{FailureType}
+use Rattle.airbyte_message.specs.declared.level.Level.{Level}
+use Rattle.airbyte_message.specs.Words.{level_text, failure_text}
+use Rattle.worker_run.specs.Rounds.{Heard}
 
 abbrev pub usage_line : List ℕ
 usage_line = codes "usage: airbyte_worker local --messages F --catalog F"
@@ -28,23 +36,73 @@ status_line s = codes "status " ++ status_text s
 abbrev pub table_line : List ℕ → ℕ → List ℕ
 table_line stream rows = codes "table " ++ (stream ++ (codes " rows " ++ decimal rows))
 
--- what is said when a line is taken: a state is saved
-abbrev pub said_of : Message → List (List ℕ)
-said_of (message.Rec content) = []
-said_of (message.State state) = saved_line state.object ∷ []
+-- bytes below 32 are said as spaces
+abbrev pub shown : List ℕ → List ℕ
+shown text = map (λ byte. if nat_lt byte 32 then 32 else byte) text
 
--- the row of a record
-abbrev pub row_lines_of : Message → List (List ℕ)
-row_lines_of (message.Rec content) = row_line content.body ∷ []
-row_lines_of (message.State state) = []
+-- a line of the source that is no message
+abbrev pub source_line : List ℕ → List ℕ
+source_line line = codes "source: " ++ line
 
--- what is said of these messages as they are taken, in order
-abbrev pub said_lines : List Message → List (List ℕ)
-said_lines messages = flat_map said_of messages
+-- a line of the source's log
+abbrev pub log_line : Level → List ℕ → List ℕ
+log_line level text = codes "source [" ++ (level_text level ++ (codes "] " ++ shown text))
+
+-- the type of an error; where none is told it is the system's
+abbrev pub failure_name : Option FailureType → List ℕ
+failure_name None = codes "system_error"
+failure_name (Some failure) = failure_text failure
+
+-- an error of the source
+abbrev pub error_line : Option FailureType → List ℕ → List ℕ
+error_line failure text = codes "source error " ++ (failure_name failure ++ (codes " " ++ shown text))
+
+abbrev pub trace_line : TraceMsg → Option (List ℕ)
+trace_line (trace.Error text failure emitted_at) = Some (error_line failure text)
+trace_line (trace.Status id status emitted_at) = None
+trace_line (trace.Other object) = None
+
+-- what is said when a line is taken
+abbrev pub heard_line : List ℕ → Option Message → Option (List ℕ)
+heard_line line None = Some (source_line line)
+heard_line line (Some (message.Rec content)) = None
+heard_line line (Some (message.State state)) = Some (saved_line state.object)
+heard_line line (Some (message.Log log)) = Some (log_line log.level log.text)
+heard_line line (Some (message.Spec spec)) = None
+heard_line line (Some (message.Connection connection)) = None
+heard_line line (Some (message.Catalog catalog)) = None
+heard_line line (Some (message.Trace content)) = trace_line content
+heard_line line (Some (message.Control control)) = None
+
+-- no line, or one
+abbrev pub option_list : Option (List ℕ) → List (List ℕ)
+option_list None = []
+option_list (Some line) = line ∷ []
+
+-- the line was said, or nothing was
+abbrev pub HeardOrNot : Option (List ℕ) → Option (List (List ℕ)) → Option (List (List ℕ)) → Type 0
+HeardOrNot None before now = now ≡ before
+HeardOrNot (Some line) before now = SaidOrNot line before now
+
+-- the body of a record
+abbrev pub body_of : Option Message → Option (List ℕ)
+body_of None = None
+body_of (Some (message.Rec content)) = Some content.body
+body_of (Some (message.State state)) = None
+body_of (Some (message.Log log)) = None
+body_of (Some (message.Spec spec)) = None
+body_of (Some (message.Connection connection)) = None
+body_of (Some (message.Catalog catalog)) = None
+body_of (Some (message.Trace content)) = None
+body_of (Some (message.Control control)) = None
+
+-- what is said of these lines as they are taken, in order
+abbrev pub said_lines : List Heard → List (List ℕ)
+said_lines heard = filter_map (λ h. heard_line h.line h.found) heard
 
 -- a row line for each record, in order
-abbrev pub row_lines : List Message → List (List ℕ)
-row_lines messages = flat_map row_lines_of messages
+abbrev pub row_lines : List Heard → List (List ℕ)
+row_lines heard = map row_line (filter_map (λ h. body_of h.found) heard)
 
 -- the table with its rows
 abbrev pub table_lines : List ℕ → List (List ℕ) → List (List ℕ)
@@ -63,9 +121,9 @@ table_at stream rows status.NoMemory = []
 abbrev pub end_lines : List ℕ → List (List ℕ) → Status → List (List ℕ)
 end_lines stream rows end = attempt_line end ∷ table_at stream rows end
 
--- what is said of an attempt that took these messages and ended so
-abbrev pub attempt_lines : List ℕ → List Message → Status → List (List ℕ)
-attempt_lines stream messages end = said_lines messages ++ end_lines stream (row_lines messages) end
+-- what is said of an attempt that took these lines and ended so
+abbrev pub attempt_lines : List ℕ → List Heard → Status → List (List ℕ)
+attempt_lines stream heard end = said_lines heard ++ end_lines stream (row_lines heard) end
 
 -- the bodies of rows, as they are said
 abbrev pub body_lines : List RawRow → List (List ℕ)

@@ -10,7 +10,7 @@ use Rattle.json_fields.specs.Answer.{IsOnly}
 use Rattle.text_lines.specs.Lines.{lines_of}
 use Rattle.worker_run.specs.Words.{TextNames}
 use Rattle.worker_run.specs.Catalog.{IsCatalog}
-use Rattle.worker_run.specs.Rounds.{Round, round_line, messages_of, Counted, none_counted, counted_through, AreRounds, IsUnbuilt}
+use Rattle.worker_run.specs.Rounds.{Round, round_line, heard_in, Counted, none_counted, counted_through, AreRounds, IsUnbuilt}
 use Rattle.worker_run.specs.World.{World, ended, rounds_events}
 use Rattle.worker_run.specs.Output.{said_lines, attempt_lines, usage_line, status_line}
 
@@ -27,7 +27,7 @@ pub record TakesLines (old new : World) (rounds : List Round) : Type 0 where
 pub record SaysLines (old new : World) (before now : Option (List (List ℕ))) : Type 0 where
   pub rounds : List Round
   pub takes : TakesLines old new rounds
-  pub said : now ≡ told_more (said_lines (messages_of rounds)) before
+  pub said : now ≡ told_more (said_lines (heard_in rounds)) before
 
 -- what stands behind the lines that were taken: nothing, or a line with this number that is not taken
 abbrev pub EndsAs : Status → World → Type 0
@@ -81,7 +81,7 @@ pub record ReadsTo (text stream : List ℕ) (end : Status) : Type 0 where
 -- an attempt over this text ends so and says these lines
 pub record IsAttempt (text stream : List ℕ) (end : Status) (lines : List (List ℕ)) : Type 0 where
   pub reads : ReadsTo text stream end
-  pub says : lines ≡ attempt_lines stream (messages_of reads.rounds) end
+  pub says : lines ≡ attempt_lines stream (heard_in reads.rounds) end
 
 -- an attempt over this text has ended so, and its lines were said
 pub record Attempted (text stream : List ℕ) (end : Status) (before now : Option (List (List ℕ))) : Type 0 where

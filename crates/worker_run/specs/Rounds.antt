@@ -1,36 +1,51 @@
 -- How the worker reads a file of messages, line by line: which lines it takes, and what each of them counts.
 use Rattle.std.specs.Prelude.{◌≡◌, ◌⊎◌, ℕ, ◌+◌, ◌<◌, ◌≤◌, List, [], ◌∷◌, map, length, fold, Option, None, Some}
 use Rattle.outside.specs.declared.event.StreamId.{StreamId}
+use Rattle.json_fields.specs.Answer.{IsAnswer}
 use Rattle.airbyte_message.specs.Messages.{IsMessage}
 use Rattle.airbyte_message.specs.Echo.{IsEcho}
-use Rattle.json_fields.specs.Answer.{IsOnly}
 use Rattle.airbyte_message.specs.declared.message.Message.{Message}
 use Rattle.airbyte_message.specs.declared.message.Message.TheVariants as message
 use Rattle.airbyte_message.specs.declared.message.RecordMsg.{RecordMsg}
 use Rattle.airbyte_message.specs.declared.message.StateMsg.{StateMsg}
 use Rattle.airbyte_message.specs.declared.message.StateKind.{StateKind}
 use Rattle.airbyte_message.specs.declared.message.StateKind.TheVariants as kind
+use Rattle.airbyte_message.specs.declared.message.TraceMsg.{TraceMsg}
+use Rattle.airbyte_message.specs.declared.message.TraceMsg.TheVariants as trace
+use Rattle.airbyte_message.specs.declared.failure_type.FailureType.{FailureType}
+use Rattle.airbyte_message.specs.declared.failure_type.FailureType.TheVariants as failure
 
 -- the longest line that is taken
 abbrev pub longest_line : ℕ
 longest_line = 20971520
 
--- a line that was taken: a record, or a state with its echo
+-- a line, and the message that it is, None where it is none
+pub record Heard : Type 0 where
+  pub line : List ℕ
+  pub found : Option Message
+
+-- a line that was taken: a record, a state with its echo, or a line that is passed over
 pub data Round : Type 0 where
   record_round : (line : List ℕ) → RecordMsg → Round
   state_round : (line : List ℕ) → StateMsg → (echo : List ℕ) → Round
+  other_round : (line : List ℕ) → Option Message → Round
 
 abbrev pub round_line : Round → List ℕ
 round_line (record_round line content) = line
 round_line (state_round line state echo) = line
+round_line (other_round line found) = line
 
 -- the message that the line is
-abbrev pub round_message : Round → Message
-round_message (record_round line content) = message.Rec content
-round_message (state_round line state echo) = message.State state
+abbrev pub round_found : Round → Option Message
+round_found (record_round line content) = Some (message.Rec content)
+round_found (state_round line state echo) = Some (message.State state)
+round_found (other_round line found) = found
 
-abbrev pub messages_of : List Round → List Message
-messages_of rounds = map round_message rounds
+abbrev pub heard_of : Round → Heard
+heard_of round = record { line = round_line round; found = round_found round }
+
+abbrev pub heard_in : List Round → List Heard
+heard_in rounds = map heard_of rounds
 
 -- the records that were read, and those of them since the last state
 pub record Counted : Type 0 where
@@ -43,14 +58,18 @@ none_counted = record { records = 0; since = 0 }
 abbrev pub counted_after : Counted → Round → Counted
 counted_after counted (record_round line content) = record { records = counted.records + 1; since = counted.since + 1 }
 counted_after counted (state_round line state echo) = record { records = counted.records; since = 0 }
+counted_after counted (other_round line found) = counted
 
 -- the stream of this name, without namespace
 pub record IsOfStream (stream : List ℕ) (id : StreamId) : Type 0 where
   pub name : id.name ≡ stream
   pub namespace : id.namespace ≡ None
 
+-- a state of the one stream; states of all streams and those without type are not taken
 abbrev pub KindIsOf : List ℕ → StateKind → Type 0
 KindIsOf stream (kind.Stream id blob) = IsOfStream stream id
+KindIsOf stream (kind.Global shared streams) = ⊥
+KindIsOf stream kind.Legacy = ⊥
 
 -- a count that a state tells is the number of records since the last state
 abbrev pub IsRightCount : Option ℕ → ℕ → Type 0
@@ -61,26 +80,64 @@ pub record IsTakenState (stream : List ℕ) (since : ℕ) (state : StateMsg) : T
   pub kind : KindIsOf stream state.kind
   pub count : IsRightCount state.source_count since
 
--- a message that is taken: a record or a state of the stream, whose count is right
-abbrev pub IsTaken : List ℕ → ℕ → Message → Type 0
-IsTaken stream since (message.Rec content) = IsOfStream stream content.id
-IsTaken stream since (message.State state) = IsTakenState stream since state
+-- an error of another type than `config_error`
+abbrev pub IsNoConfigError : Option FailureType → Type 0
+IsNoConfigError None = Unit {0}
+IsNoConfigError (Some failure.SystemError) = Unit {0}
+IsNoConfigError (Some failure.ConfigError) = ⊥
+IsNoConfigError (Some failure.TransientError) = Unit {0}
+
+-- a trace that is passed over: an error of the source's run, an estimate, one for analytics
+abbrev pub IsPassedTrace : TraceMsg → Type 0
+IsPassedTrace (trace.Error text failure emitted_at) = IsNoConfigError failure
+IsPassedTrace (trace.Status id status emitted_at) = ⊥
+IsPassedTrace (trace.Other object) = Unit {0}
+
+-- a line that is passed over: no message, or one that neither carries data nor ends the run
+abbrev pub IsPassedOver : Option Message → Type 0
+IsPassedOver None = Unit {0}
+IsPassedOver (Some (message.Rec content)) = ⊥
+IsPassedOver (Some (message.State state)) = ⊥
+IsPassedOver (Some (message.Log log)) = Unit {0}
+IsPassedOver (Some (message.Spec spec)) = Unit {0}
+IsPassedOver (Some (message.Connection connection)) = Unit {0}
+IsPassedOver (Some (message.Catalog catalog)) = Unit {0}
+IsPassedOver (Some (message.Trace content)) = IsPassedTrace content
+IsPassedOver (Some (message.Control control)) = Unit {0}
+
+-- what is taken: a record or a state of the stream, whose count is right, and what is passed over
+abbrev pub IsTaken : List ℕ → ℕ → Option Message → Type 0
+IsTaken stream since None = Unit {0}
+IsTaken stream since (Some (message.Rec content)) = IsOfStream stream content.id
+IsTaken stream since (Some (message.State state)) = IsTakenState stream since state
+IsTaken stream since (Some (message.Log log)) = Unit {0}
+IsTaken stream since (Some (message.Spec spec)) = Unit {0}
+IsTaken stream since (Some (message.Connection connection)) = Unit {0}
+IsTaken stream since (Some (message.Catalog catalog)) = Unit {0}
+IsTaken stream since (Some (message.Trace content)) = IsPassedTrace content
+IsTaken stream since (Some (message.Control control)) = Unit {0}
 
 -- the line is taken as this round: it is this message and no other
 pub record FitsRecord (stream line : List ℕ) (content : RecordMsg) : Type 0 where
   pub short : length line ≤ longest_line
-  pub message : IsOnly (IsMessage line) (message.Rec content)
+  pub message : IsAnswer (IsMessage line) (Some (message.Rec content))
   pub taken : IsOfStream stream content.id
 
 pub record FitsState (stream : List ℕ) (since : ℕ) (line : List ℕ) (state : StateMsg) (echo : List ℕ) : Type 0 where
   pub short : length line ≤ longest_line
-  pub message : IsOnly (IsMessage line) (message.State state)
+  pub message : IsAnswer (IsMessage line) (Some (message.State state))
   pub taken : IsTakenState stream since state
   pub echoed : IsEcho state.object since echo
+
+pub record FitsOther (line : List ℕ) (found : Option Message) : Type 0 where
+  pub short : length line ≤ longest_line
+  pub message : IsAnswer (IsMessage line) found
+  pub passed : IsPassedOver found
 
 abbrev pub Fits : List ℕ → Counted → Round → Type 0
 Fits stream counted (record_round line content) = FitsRecord stream line content
 Fits stream counted (state_round line state echo) = FitsState stream counted.since line state echo
+Fits stream counted (other_round line found) = FitsOther line found
 
 -- each line is taken, after those before it
 abbrev pub AreRounds : List ℕ → Counted → List Round → Type 0
@@ -91,6 +148,12 @@ AreRounds stream counted (round ∷ rounds) = Fits stream counted round × AreRo
 abbrev pub counted_through : Counted → List Round → Counted
 counted_through counted rounds = fold counted_after counted rounds
 
--- the line is not taken: it is too long, no message that is known here, of another stream, or its count is wrong
+-- a line that is read as a message that is not taken: one of another stream, whose count is wrong, or that ends a run
+pub record IsRefused (stream : List ℕ) (since : ℕ) (line : List ℕ) : Type 0 where
+  pub found : Option Message
+  pub message : IsAnswer (IsMessage line) found
+  pub refused : ¬ IsTaken stream since found
+
+-- the line is not taken: it is too long, or such a message
 abbrev pub IsUnbuilt : List ℕ → ℕ → List ℕ → Type 0
-IsUnbuilt stream since line = (longest_line < length line) ⊎ ((m : Message) → IsMessage line m → ¬ IsTaken stream since m)
+IsUnbuilt stream since line = (longest_line < length line) ⊎ IsRefused stream since line

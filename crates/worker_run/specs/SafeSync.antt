@@ -4,7 +4,6 @@ use Rattle.std.specs.Prelude.{◌≡◌, ◌⊎◌, ℕ, List, [], ◌∷◌, �
 use Rattle.std.specs.List.{AllByRecursion, filter_map, enumerate_from}
 use Rattle.outside.specs.declared.event.Event.{Event}
 use Rattle.outside.specs.declared.event.Event.TheVariants.{Started, Saved}
-use Rattle.outside.specs.declared.event.StreamId.{StreamId}
 use Rattle.outside.specs.declared.event.AttemptPlan.{AttemptPlan}
 use Rattle.airbyte_message.specs.Messages.{IsMessage}
 use Rattle.airbyte_message.specs.Echo.{IsEcho}
@@ -14,17 +13,54 @@ use Rattle.airbyte_message.specs.declared.message.RecordMsg.{RecordMsg}
 use Rattle.airbyte_message.specs.declared.message.StateMsg.{StateMsg}
 use Rattle.airbyte_message.specs.declared.message.StateKind.{StateKind}
 use Rattle.airbyte_message.specs.declared.message.StateKind.TheVariants as kind
+use Rattle.airbyte_message.specs.declared.message.TraceMsg.{TraceMsg}
+use Rattle.airbyte_message.specs.declared.message.TraceMsg.TheVariants as trace
+use Rattle.json_fields.specs.Answer.{IsAnswer}
+use Rattle.worker_run.specs.Rounds.{Heard, IsOfStream}
 use Rattle.worker_run.specs.Store.{store_text, states_text}
 use Rattle.worker_run.specs.World.{row_of}
 use Rattle.worker_run.specs.EventParts.{read_line, given_line, got_line, saved_text, rows_of}
 
--- the lane of a state: the stream that it is of
-abbrev pub lane_of : StateKind → StreamId
-lane_of (kind.Stream id blob) = id
+-- a state covers the records of its lane: those of its stream, or of all streams
+abbrev pub KindCovers : StateKind → RecordMsg → Type 0
+KindCovers (kind.Stream id blob) content = content.id ≡ id
+KindCovers (kind.Global shared streams) content = Unit {0}
+KindCovers kind.Legacy content = ⊥
 
--- a state covers the records of its lane
 abbrev pub Covers : StateMsg → RecordMsg → Type 0
-Covers state content = content.id ≡ lane_of state.kind
+Covers state content = KindCovers state.kind content
+
+-- a message that is passed on: a record, a state or a status of the stream, or a state of all streams
+abbrev pub PassesKind : List ℕ → StateKind → Type 0
+PassesKind stream (kind.Stream id blob) = IsOfStream stream id
+PassesKind stream (kind.Global shared streams) = Unit {0}
+PassesKind stream kind.Legacy = ⊥
+
+abbrev pub PassesTrace : List ℕ → TraceMsg → Type 0
+PassesTrace stream (trace.Error text failure emitted_at) = ⊥
+PassesTrace stream (trace.Status id status emitted_at) = IsOfStream stream id
+PassesTrace stream (trace.Other object) = ⊥
+
+abbrev pub Passes : List ℕ → Option Message → Type 0
+Passes stream None = ⊥
+Passes stream (Some (message.Rec content)) = IsOfStream stream content.id
+Passes stream (Some (message.State state)) = PassesKind stream state.kind
+Passes stream (Some (message.Log log)) = ⊥
+Passes stream (Some (message.Spec spec)) = ⊥
+Passes stream (Some (message.Connection connection)) = ⊥
+Passes stream (Some (message.Catalog catalog)) = ⊥
+Passes stream (Some (message.Trace content)) = PassesTrace stream content
+Passes stream (Some (message.Control control)) = ⊥
+
+-- these are the lines that are passed on, each with the message that it is
+abbrev pub ArePassed : List ℕ → List (List ℕ) → List Heard → Type 0
+ArePassed stream [] passed = passed ≡ []
+ArePassed stream (line ∷ lines) passed =
+    (found : Option Message) × IsAnswer (IsMessage line) found × (others : List Heard) × ArePassed stream lines others
+    × ((Passes stream found × (passed ≡ record { line = line; found = found } ∷ others)) ⊎ ((¬ Passes stream found) × (passed ≡ others)))
+
+abbrev pub heard_text : Heard → List ℕ
+heard_text heard = heard.line
 
 -- the events since the last start
 abbrev pub attempt_after : List Event → Event → List Event
@@ -42,22 +78,25 @@ last_saved events = fold (λ found event. kept found (saved_text event)) None ev
     kept found None = found
     kept found (Some text) = Some text
 
--- each line is this message
-abbrev pub AreMessages : List (List ℕ) → List Message → Type 0
-AreMessages [] [] = Unit {0}
-AreMessages [] (m ∷ messages) = ⊥
-AreMessages (line ∷ lines) [] = ⊥
-AreMessages (line ∷ lines) (m ∷ messages) = IsMessage line m × AreMessages lines messages
-
 -- a state that was read, with the records that were read before it, in order
 pub record ReadState : Type 0 where
   pub state : StateMsg
   pub before : List RecordMsg
 
-abbrev pub states_behind : List RecordMsg → List Message → List ReadState
+-- the records so far, behind one more line
+abbrev pub records_after : List RecordMsg → Option Message → List RecordMsg
+records_after before (Some (message.Rec content)) = before ++ content ∷ []
+records_after before found = before
+
+-- in front of more states, the one of a line that is a state
+abbrev pub and_state_of : Option Message → List RecordMsg → List ReadState → List ReadState
+and_state_of (Some (message.State state)) before states = record { state = state; before = before } ∷ states
+and_state_of found before states = states
+
+-- the states among the lines that were passed on, each with the records before it
+abbrev pub states_behind : List RecordMsg → List Heard → List ReadState
 states_behind before [] = []
-states_behind before (message.Rec content ∷ messages) = states_behind (before ++ content ∷ []) messages
-states_behind before (message.State state ∷ messages) = record { state = state; before = before } ∷ states_behind before messages
+states_behind before (heard ∷ passed) = and_state_of heard.found before (states_behind (records_after before heard.found) passed)
 
 -- the line is the echo of the state with some count
 abbrev pub Echoes : StateMsg → List ℕ → Type 0
@@ -84,17 +123,24 @@ pub record SavesNothing (stream : List ℕ) (before : List Event) (text : List �
 -- The text holds the state that the last echo takes, and each record that it covers and that was read before it stands
 -- committed in this attempt, as the row of its own line with its number.
 pub record SavesTaken (stream : List ℕ) (before : List Event) (text : List ℕ) : Type 0 where
-  pub messages : List Message
-  pub are : AreMessages (filter_map read_line (attempt before)) messages
+  pub passed : List Heard
+  pub are : ArePassed stream (filter_map read_line (attempt before)) passed
   pub taken : List ReadState
   pub last : ReadState
-  pub takes : Takes (filter_map got_line (attempt before)) (states_behind [] messages) (taken ++ last ∷ [])
+  pub takes : Takes (filter_map got_line (attempt before)) (states_behind [] passed) (taken ++ last ∷ [])
   pub is : text ≡ store_text stream (Some last.state.object)
   pub committed : AllByRecursion (λ numbered. Covers last.state numbered.1 → Contains (flat_map rows_of (attempt before)) (row_of numbered.0 numbered.1)) (enumerate_from 0 last.before)
 
+-- the lines that were given are a prefix of those that are passed on
+pub record GivesPassed (stream : List ℕ) (reads gives : List (List ℕ)) : Type 0 where
+  pub passed : List Heard
+  pub are : ArePassed stream reads passed
+  pub rest : List (List ℕ)
+  pub splits : map heard_text passed ≡ gives ++ rest
+
 -- the events so far are safe, as to the given lines and to the last event
 pub record IsSafeSoFar (stream : List ℕ) (events : List Event) : Type 0 where
-  pub given : (rest : List (List ℕ)) × (filter_map read_line (attempt events) ≡ filter_map given_line (attempt events) ++ rest)
+  pub given : GivesPassed stream (filter_map read_line (attempt events)) (filter_map given_line (attempt events))
   pub started : (before : List Event) (plan : AttemptPlan) → events ≡ before ++ Started plan ∷ [] → StartsSafely stream before plan
   pub saved : (before : List Event) (text : List ℕ) → events ≡ before ++ Saved text ∷ [] → SavesNothing stream before text ⊎ SavesTaken stream before text
 

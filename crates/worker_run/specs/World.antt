@@ -9,7 +9,7 @@ use Rattle.outside.specs.declared.event.AttemptPlan.{AttemptPlan}
 use Rattle.outside.specs.declared.event.Job.TheVariants as job
 use Rattle.outside.specs.declared.event.Exit.TheVariants as exit
 use Rattle.airbyte_message.specs.declared.message.RecordMsg.{RecordMsg}
-use Rattle.worker_run.specs.Rounds.{Round, record_round, state_round, Counted, none_counted, counted_after}
+use Rattle.worker_run.specs.Rounds.{Round, record_round, state_round, other_round, Counted, none_counted, counted_after}
 use Rattle.worker_run.specs.Store.{store_text, states_text}
 
 -- the row of a record with this number in load 1
@@ -50,6 +50,7 @@ state_events stream line object echo = ReadLine line ∷ Given line ∷ Took lin
 abbrev pub round_events : List ℕ → Counted → Round → List Event
 round_events stream counted (record_round line content) = record_events line counted.records content
 round_events stream counted (state_round line state echo) = state_events stream line state.object echo
+round_events stream counted (other_round line found) = ReadLine line ∷ []
 
 -- the events of lines that are taken one after another
 abbrev pub rounds_events : List ℕ → Counted → List Round → List Event

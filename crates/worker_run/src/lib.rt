@@ -2,6 +2,7 @@
 #![tactic(auto)]
 
 mod catalog;
+mod heard;
 mod judge;
 mod output;
 mod plain_world;

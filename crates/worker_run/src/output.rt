@@ -1,7 +1,7 @@
 // The lines that the worker says.
 ghost use Rattle.std.specs.Prelude.{◌≡◌, ◌++◌, ◌∷◌, [], IfOk, OnOk, IsErrOf, codes};
 ghost use Rattle.worker_run.specs.EventParts.{rows_of};
-ghost use Rattle.worker_run.specs.Output.{usage_line, saved_line, attempt_line, status_line, table_line, table_lines, table_at, end_lines, body_lines, committed_lines};
+ghost use Rattle.worker_run.specs.Output.{usage_line, saved_line, attempt_line, status_line, table_line, table_lines, table_at, end_lines, body_lines, committed_lines, option_list, HeardOrNot};
 ghost use Rattle.outside.specs.Status.{status_text};
 ghost use Rattle.outside.specs.Told.{told_more, RoseIf, GrewByFront};
 ghost use Rattle.outside.specs.Desk.{SaidOrNot};
@@ -72,6 +72,20 @@ pub fn say_saved<K: Desk>(alloc: Global, desk: &mut K, object: &[u8]) -> Result<
     ensures texts { K.texts desk.new ≡ K.texts desk.old }
 {
     say_joined(alloc, desk, b"saved ", object)
+}
+
+/// Says what is to be said of a line that is passed over, if anything.
+pub fn say_heard<K: Desk>(desk: &mut K, said: Option<Bytes>) -> Result<(), Fault>
+    ensures ok { OnOk result (K.said desk.new ≡ told_more (option_list said) (K.said desk.old)) }
+    ensures whole_or_nothing { HeardOrNot said (K.said desk.old) (K.said desk.new) }
+    ensures faults { RoseIf (IsErrOf result Fault.Failed) (K.say_faults desk.old) (K.say_faults desk.new) }
+    ensures read_faults { K.read_faults desk.new ≡ K.read_faults desk.old }
+    ensures texts { K.texts desk.new ≡ K.texts desk.old }
+{
+    match said {
+        Some(line) => desk.say(line.as_slice()),
+        None => Ok(()),
+    }
 }
 
 // Says a front and a status.

@@ -1,13 +1,13 @@
 // One attempt in one process, which keeps all its events.
-ghost use Rattle.std.specs.Prelude.{◌≡◌, ℕ, ◌++◌, length, drop, IfOk, OnOk, OnErr};
+ghost use Rattle.std.specs.Prelude.{◌≡◌, ◌≢◌, ℕ, [], ◌∷◌, ◌++◌, length, drop, IfOk, OnOk, OnErr};
 ghost use Rattle.text_lines.specs.Lines.{lines_of};
 ghost use Rattle.airbyte_message.specs.Messages.{IsStateLine};
 ghost use Rattle.worker_run.specs.World.{begun, record_events as record_events_of};
 
 use crate::judge::Judged;
-use crate::rounds::{closing_events, opening_events, record_events, state_events};
+use crate::rounds::{closing_events, opening_events, other_events, record_events, state_events};
 use airbyte_message::{RecordMsg, StateMsg, echo_of};
-use outside::{Bytes, EventList, Name, NoMemory};
+use outside::{Bytes, Event, EventList, Name, NoMemory};
 use std::alloc::Global;
 use std::marker::Model;
 use text_lines::next_line;
@@ -19,6 +19,8 @@ pub enum Step {
     Record,
     /// This state object was saved.
     Saved(Bytes),
+    /// A line was passed over: it is no message, or one that carries no data. This is to be said of it, if anything.
+    Other(Option<Bytes>),
     /// No line is left.
     Done,
     /// The line with this number, from 1, is not taken, and the world is as before.
@@ -70,10 +72,20 @@ fn push_record(
     events.append(more)
 }
 
+// Puts the event of a line that is passed over behind the others.
+fn push_other(alloc: Global, events: &mut EventList, line: &[u8]) -> Result<(), NoMemory>
+    ensures ok { OnOk result (events.new ≡ events.old ++ Event.ReadLine line.now ∷ []) }
+    ensures err { OnErr result (events.new ≡ events.old) }
+{
+    let more = other_events(alloc, line)?;
+    events.append(more)
+}
+
 impl PlainWorld {
     ghost use Rattle.worker_run.specs.Steps.{Steps, AddsState};
     ghost use Rattle.worker_run.specs.SafeSync.{IsSafeSync};
     ghost use Rattle.worker_run.specs.Output.{committed_lines};
+    ghost use Rattle.worker_run.specs.Rounds.{KindIsOf};
 
     /// A world that has taken no line: the load is opened, the empty store saved and the attempt started.
     pub fn new(alloc: Global, text: Bytes, stream: Name) -> Result<Self, NoMemory>
@@ -126,7 +138,8 @@ impl PlainWorld {
         state: StateMsg,
         since: u64,
     ) -> Result<Bytes, NoMemory>
-        requires { IsStateLine line.now state }
+        requires state { IsStateLine line.now state }
+        requires stream { KindIsOf stream.now state.kind }
         ensures object { IfOk result (λ object. object ≡ state.object) }
         ensures ok { OnOk result (AddsState stream.now line.now state.object since events.old events.new) }
         ensures err { OnErr result (events.new ≡ events.old) }
@@ -171,6 +184,12 @@ impl PlainWorld {
                 self.number += 1;
                 self.since = 0;
                 Ok(Step::Saved(object))
+            }
+            Judged::Other(said) => {
+                push_other(self.alloc, &mut self.events, line)?;
+                self.at = place.end;
+                self.number += 1;
+                Ok(Step::Other(said))
             }
             Judged::Unbuilt => Ok(Step::Unbuilt(self.number + 1)),
         }

@@ -1,5 +1,5 @@
 // The events of the plain world.
-ghost use Rattle.std.specs.Prelude.{◌≡◌, IfOk};
+ghost use Rattle.std.specs.Prelude.{◌≡◌, [], ◌∷◌, IfOk};
 ghost use Rattle.worker_run.specs.World.{row_of, first_events, last_events, record_events as record_events_of, state_events as state_events_of};
 
 use crate::store::store_text;
@@ -53,6 +53,14 @@ pub fn record_events(
         rows,
     };
     Ok(Vec::from_array(alloc, [read, given, taken, committed])?)
+}
+
+/// The event of a line that is passed over: it is read.
+pub fn other_events(alloc: Global, line: &[u8]) -> Result<Vec<Event>, NoMemory>
+    ensures { IfOk result (λ events. events.items ≡ Event.ReadLine line.now ∷ []) }
+{
+    let read = Event::ReadLine(Bytes::copy_of(alloc, line)?);
+    Ok(Vec::from_array(alloc, [read])?)
 }
 
 /// The events of a state: its line is read, given and taken, its echo comes back, and its object is saved.

@@ -5,7 +5,7 @@ ghost use Rattle.worker_run.specs.Reading.{Reads, ReadsSome, Attempted, StopsSho
 ghost use Rattle.worker_run.specs.Words.{asked as asked_of};
 
 use crate::catalog::stream_of;
-use crate::output::{say_end, say_saved, say_status, say_usage};
+use crate::output::{say_end, say_heard, say_saved, say_status, say_usage};
 use crate::words::{TextNames, asked};
 use crate::{PlainWorld, Step};
 use outside::{Bytes, Desk, Fault, Link, Name, Status};
@@ -43,6 +43,7 @@ fn take_lines<K: Desk>(alloc: Global, desk: &mut K, world: &mut PlainWorld) -> R
         match world.step()? {
             Step::Record => {}
             Step::Saved(object) => say_saved(alloc, desk, object.as_slice())?,
+            Step::Other(said) => say_heard(desk, said)?,
             Step::Done => return Ok(Status::Ok),
             Step::Unbuilt(line) => return Ok(Status::Unbuilt { line }),
         }

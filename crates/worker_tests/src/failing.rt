@@ -4,9 +4,10 @@ use outside::{NoLink, Status};
 use std::test::Fail;
 
 const MESSAGES: &str =
-    "{\"type\":\"RECORD\",\"record\":{\"stream\":\"a\",\"data\":{\"id\":7,\"v\":1},\"emitted_at\":1}}\n{\"type\":\"STATE\",\"state\":{\"type\":\"STREAM\",\"stream\":{\"stream_descriptor\":{\"name\":\"a\"},\"stream_state\":{\"n\":1}},\"sourceStats\":{\"recordCount\":1}}}\n";
+    "hello\n{\"type\":\"RECORD\",\"record\":{\"stream\":\"a\",\"data\":{\"id\":7,\"v\":1},\"emitted_at\":1}}\n{\"type\":\"STATE\",\"state\":{\"type\":\"STREAM\",\"stream\":{\"stream_descriptor\":{\"name\":\"a\"},\"stream_state\":{\"n\":1}},\"sourceStats\":{\"recordCount\":1}}}\n";
 
-const LINES: [&str; 5] = [
+const LINES: [&str; 6] = [
+    "source: hello",
     "saved {\"type\":\"STREAM\",\"stream\":{\"stream_descriptor\":{\"name\":\"a\"},\"stream_state\":{\"n\":1}},\"sourceStats\":{\"recordCount\":1}}",
     "attempt 1: 0 Ok",
     "table a rows 1",
@@ -49,5 +50,25 @@ fn a_desk_without_a_fault_says_all(rt: HostRuntime) -> Result<(), Fail> {
     let answer = worker_run::run(alloc, &mut desk, &mut NoLink::new(), &words);
     assert_eq!(rt; answer, Status::Ok);
     assert_said(&rt, &desk, &LINES, "no fault");
+    Ok(())
+}
+
+#[test]
+fn want_of_memory_leaves_a_front_of_what_is_said(rt: HostRuntime) -> Result<(), Fail> {
+    let alloc = rt.alloc();
+    let Ok(words) = local_words(alloc) else {
+        return Ok(());
+    };
+    let Ok(mut desk) = desk_of(alloc, MESSAGES.as_bytes(), CATALOG.as_bytes(), 0) else {
+        return Ok(());
+    };
+    let answer = worker_run::run(alloc, &mut desk, &mut NoLink::new(), &words);
+    if answer == Status::NoMemory {
+        let said = desk.said().len().min(LINES.len());
+        assert_said(&rt, &desk, &LINES[..said], "want of memory");
+    } else {
+        assert_eq!(rt; answer, Status::Ok);
+        assert_said(&rt, &desk, &LINES, "ample memory");
+    }
     Ok(())
 }

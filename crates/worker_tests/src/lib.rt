@@ -6,6 +6,8 @@ mod desks;
 #[cfg(test)]
 mod failing;
 #[cfg(test)]
+mod heard;
+#[cfg(test)]
 mod local;
 #[cfg(test)]
 mod world;

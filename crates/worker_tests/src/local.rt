@@ -7,7 +7,7 @@ use std::test::Fail;
 fn files_are_taken_line_by_line(rt: HostRuntime) -> Result<(), Fail> {
     let alloc = rt.alloc();
     let words = local_words(alloc)?;
-    let cases: [(&str, &str, Status, &[&str]); 14] = [
+    let cases: [(&str, &str, Status, &[&str]); 13] = [
         (
             "a state alone is saved",
             "{\"type\":\"STATE\",\"state\":{\"type\":\"STREAM\",\"stream\":{\"stream_descriptor\":{\"name\":\"a\"},\"stream_state\":{}},\"sourceStats\":{\"recordCount\":0}}}",
@@ -66,10 +66,16 @@ fn files_are_taken_line_by_line(rt: HostRuntime) -> Result<(), Fail> {
             ],
         ),
         (
-            "a torn last line that is none is refused",
+            "a torn last line that is none is said",
             "{\"type\":\"RECORD\",\"record\":{\"stream\":\"a\",\"data\":{\"id\":1},\"emitted_at\":1}}\n{\"type\":\"RECORD\",\"record\":{\"stream\":\"a\",\"data\":{\"id\":2},\"emitted_at\":1}",
-            Status::Unbuilt { line: 2 },
-            &["attempt 1: 60 Unbuilt line 2", "status 60 Unbuilt line 2"],
+            Status::Ok,
+            &[
+                "source: {\"type\":\"RECORD\",\"record\":{\"stream\":\"a\",\"data\":{\"id\":2},\"emitted_at\":1}",
+                "attempt 1: 0 Ok",
+                "table a rows 1",
+                "row {\"id\":1}",
+                "status 0 Ok",
+            ],
         ),
         (
             "blank lines have no number",
@@ -125,12 +131,6 @@ fn files_are_taken_line_by_line(rt: HostRuntime) -> Result<(), Fail> {
                 "row { \"v\" : 10.0 , \"z\":\"Zo\\u00eb\" }",
                 "status 0 Ok",
             ],
-        ),
-        (
-            "a line that is no message is refused",
-            "hello\n",
-            Status::Unbuilt { line: 1 },
-            &["attempt 1: 60 Unbuilt line 1", "status 60 Unbuilt line 1"],
         ),
     ];
     for (name, messages, status, lines) in cases {

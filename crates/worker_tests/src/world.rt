@@ -86,6 +86,25 @@ fn a_world_keeps_its_events_in_order(rt: HostRuntime) -> Result<(), Fail> {
 }
 
 #[test]
+fn a_line_that_is_no_message_is_read_and_not_given(rt: HostRuntime) -> Result<(), Fail> {
+    let alloc = rt.alloc();
+    let line =
+        "{\"type\":\"STATE\",\"state\":{\"type\":\"STREAM\",\"stream\":{\"stream_descriptor\":{\"name\":\"a\"},\"stream_state\":{}},\"sourceStats\":{\"recordCount\":1.5}}}";
+    let text = Bytes::copy_of(alloc, line.as_bytes())?;
+    let mut world = PlainWorld::new(alloc, text, Name::copy_of(alloc, "a")?)?;
+    match world.step()? {
+        Step::Other(Some(said)) => {
+            assert_eq!(rt; said.len(), line.len() + "source: ".len());
+        }
+        _ => assert!(rt; false, "a line that is passed over"),
+    }
+    let events = world.events().as_slice();
+    assert_eq!(rt; events.len(), 4);
+    assert!(rt; matches!(events.get(3), Some(Event::ReadLine(_))));
+    Ok(())
+}
+
+#[test]
 fn statuses_have_their_numbers_and_texts(rt: HostRuntime) -> Result<(), Fail> {
     let cases = [
         (Status::Ok, 0, "0 Ok"),

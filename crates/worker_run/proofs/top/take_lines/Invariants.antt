@@ -1,6 +1,5 @@
 use Rattle.std.proofs.Common.{◌≡◌, ◌≤◌}
 use Rattle.worker_run.specs.Reading.{SaysLines}
-use Rattle.worker_run.proofs.OneReading.{one_outcome, some_lines_front}
 use Rattle.worker_run.proofs.top.take_lines.Given as goal
 
 -- only what the lines say was said
