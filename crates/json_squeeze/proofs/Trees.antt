@@ -7,10 +7,10 @@ use Rattle.json_scalar.specs.Text.{Piece, plain, escape, unit, pair, quotation_m
 use Rattle.json_scalar.specs.Number.{Digit, Sign, unsigned, plus, minus, Exponent, Digits, Literal, digits_text, whole_digits, all_digits, sign_text, fraction_text, exponent_text, literal_text}
 use Rattle.json_span.specs.Grammar as json
 use Rattle.json_span.specs.Grammar.{Space, space_text, Value, Items, Members, value_text, items_text, members_text, depth, items_depth, members_depth}
-use Rattle.json_span.specs.Members.{IsObjectValue}
-use Rattle.json_span.specs.Elements.{IsArrayValue}
+use Rattle.json_span.specs.Members.{IsObjectValue, members_of}
+use Rattle.json_span.specs.Elements.{IsArrayValue, elements_of}
 use Rattle.json_squeeze.specs.Squeeze.{is_space, squeezed, in_string}
-use Rattle.json_squeeze.specs.Dense.{dense, dense_items, dense_members, dense_text, IsSpelling, SqueezesValues, SqueezesAlike}
+use Rattle.json_squeeze.specs.Dense.{dense, dense_items, dense_members, dense_text, IsSpelling, StaysObject, StaysArray, SqueezesValues, SqueezesAlike}
 use Rattle.json_squeeze.proofs.Bytes.{equal, squeezed-shown, in_string-plain}
 use Rattle.json_squeeze.proofs.Utf8.{squeezed-utf8}
 
@@ -223,3 +223,36 @@ squeezes text v s = record {
 
 pub alike : SqueezesAlike
 alike one other v w s t e = squeezed-value one v s ∙ ap (λ (u : Value). value_text u) e ∙ sym (squeezed-value other w t)
+
+-- an object, and an array, as they stand in the squeezed text
+pub stays_object : (text : List ℕ) → StaysObject text (squeezed text)
+stays_object text deep members o =
+    let v = o.value in
+    let spells = o.spells in
+    let spelling : IsSpelling text v = record { before = o.before; after = o.after; spelled = spells.spelled } in (
+      members_of 0 (dense v),
+      record {
+        before = [];
+        value = dense v;
+        after = [];
+        spells = record { utf8 = squeezed-utf8 text spells.utf8; object = dense-object v spells.object; spelled = squeezed-value text v spelling ∙ sym (append-nil (dense_text v)) };
+        deepest = o.deepest ∙ sym (dense-depth v);
+        places = refl;
+      },
+    )
+
+pub stays_array : (text : List ℕ) → StaysArray text (squeezed text)
+stays_array text deep spans o =
+    let v = o.value in
+    let spells = o.spells in
+    let spelling : IsSpelling text v = record { before = o.before; after = o.after; spelled = spells.spelled } in (
+      elements_of 0 (dense v),
+      record {
+        before = [];
+        value = dense v;
+        after = [];
+        spells = record { utf8 = squeezed-utf8 text spells.utf8; array = dense-array v spells.array; spelled = squeezed-value text v spelling ∙ sym (append-nil (dense_text v)) };
+        deepest = o.deepest ∙ sym (dense-depth v);
+        places = refl;
+      },
+    )
