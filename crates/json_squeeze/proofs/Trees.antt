@@ -104,21 +104,21 @@ not_digit b n unlike is = by_case (b == n) refl
 hex : (b : ℕ) {x : List ℕ} → is_digit b 16 ≡ true → Stays x → Stays (b ∷ x)
 hex b is p = byte b (not_digit b 34 refl is) (not_digit b 92 refl is) p
 
-fst : (x y : Bool) → (x && y) ≡ true → x ≡ true
-fst true y e = refl
-fst false y e = cc
+left_test : (x y : Bool) → (x && y) ≡ true → x ≡ true
+left_test true y e = refl
+left_test false y e = cc
 
-snd : (x y : Bool) → (x && y) ≡ true → y ≡ true
-snd true y e = e
-snd false y e = cc
+right_test : (x y : Bool) → (x && y) ≡ true → y ≡ true
+right_test true y e = e
+right_test false y e = cc
 
 hexes : (a b c d : ℕ) → are_hex a b c d ≡ true → Stays (a ∷ b ∷ c ∷ d ∷ [])
 hexes a b c d is =
-    let is2 = snd (is_digit a 16) (is_digit b 16 && (is_digit c 16 && is_digit d 16)) is in
-    let is3 = snd (is_digit b 16) (is_digit c 16 && is_digit d 16) is2 in
-    hex a (fst (is_digit a 16) (is_digit b 16 && (is_digit c 16 && is_digit d 16)) is)
-    (hex b (fst (is_digit b 16) (is_digit c 16 && is_digit d 16) is2)
-    (hex c (fst (is_digit c 16) (is_digit d 16) is3) (hex d (snd (is_digit c 16) (is_digit d 16) is3) nothing)))
+    let is2 = right_test (is_digit a 16) (is_digit b 16 && (is_digit c 16 && is_digit d 16)) is in
+    let is3 = right_test (is_digit b 16) (is_digit c 16 && is_digit d 16) is2 in
+    hex a (left_test (is_digit a 16) (is_digit b 16 && (is_digit c 16 && is_digit d 16)) is)
+    (hex b (left_test (is_digit b 16) (is_digit c 16 && is_digit d 16) is2)
+    (hex c (left_test (is_digit c 16) (is_digit d 16) is3) (hex d (right_test (is_digit c 16) (is_digit d 16) is3) nothing)))
 
 units : (a b c d : ℕ) → are_hex a b c d ≡ true → Stays (unit_text a b c d)
 units a b c d is = let four = hexes a b c d is in record { at = λ rest. ap (λ (l : List ℕ). 92 ∷ 117 ∷ l) (four.at rest) }
@@ -133,8 +133,8 @@ piece (escape form_feed) = record { at = λ rest. refl }
 piece (escape line_feed) = record { at = λ rest. refl }
 piece (escape carriage_return) = record { at = λ rest. refl }
 piece (escape tab) = record { at = λ rest. refl }
-piece (unit a b c d is) = units a b c d (fst (are_hex a b c d) (not (is_high_surrogate (code_unit a b c d)) && not (is_low_surrogate (code_unit a b c d))) is)
-piece (pair a b c d high e f g h low) = both (units a b c d (fst (are_hex a b c d) (is_high_surrogate (code_unit a b c d)) high)) (units e f g h (fst (are_hex e f g h) (is_low_surrogate (code_unit e f g h)) low))
+piece (unit a b c d is) = units a b c d (left_test (are_hex a b c d) (not (is_high_surrogate (code_unit a b c d)) && not (is_low_surrogate (code_unit a b c d))) is)
+piece (pair a b c d high e f g h low) = both (units a b c d (left_test (are_hex a b c d) (is_high_surrogate (code_unit a b c d)) high)) (units e f g h (left_test (are_hex e f g h) (is_low_surrogate (code_unit e f g h)) low))
 
 pieces : (ps : List Piece) → Stays (flat_map piece_text ps)
 pieces [] = nothing
