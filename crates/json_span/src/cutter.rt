@@ -60,6 +60,7 @@ impl Cutter {
     }
 
     /// Keeps the member or the element whose value ends before this place.
+    #[inline(never)]
     fn keep(&mut self, frames: &Frames, place: u64) -> Result<(), NoMemory>
         ensures { OnOk result (self.new ≡ ended_in frames.now self.old place) }
     {

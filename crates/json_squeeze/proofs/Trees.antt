@@ -7,10 +7,10 @@ use Rattle.json_scalar.specs.Text.{Piece, plain, escape, unit, pair, quotation_m
 use Rattle.json_scalar.specs.Number.{Digit, Sign, unsigned, plus, minus, Exponent, Digits, Literal, digits_text, whole_digits, all_digits, sign_text, fraction_text, exponent_text, literal_text}
 use Rattle.json_span.specs.Grammar as json
 use Rattle.json_span.specs.Grammar.{Space, space_text, Value, Items, Members, value_text, items_text, members_text, depth, items_depth, members_depth}
-use Rattle.json_span.specs.Members.{IsObjectValue}
-use Rattle.json_span.specs.Elements.{IsArrayValue}
+use Rattle.json_span.specs.Members.{IsObjectValue, members_of}
+use Rattle.json_span.specs.Elements.{IsArrayValue, elements_of}
 use Rattle.json_squeeze.specs.Squeeze.{is_space, squeezed, in_string}
-use Rattle.json_squeeze.specs.Dense.{dense, dense_items, dense_members, dense_text, IsSpelling, SqueezesValues, SqueezesAlike}
+use Rattle.json_squeeze.specs.Dense.{dense, dense_items, dense_members, dense_text, IsSpelling, StaysObject, StaysArray, SqueezesValues, SqueezesAlike}
 use Rattle.json_squeeze.proofs.Bytes.{equal, squeezed-shown, in_string-plain}
 use Rattle.json_squeeze.proofs.Utf8.{squeezed-utf8}
 
@@ -104,21 +104,21 @@ not_digit b n unlike is = by_case (b == n) refl
 hex : (b : ℕ) {x : List ℕ} → is_digit b 16 ≡ true → Stays x → Stays (b ∷ x)
 hex b is p = byte b (not_digit b 34 refl is) (not_digit b 92 refl is) p
 
-fst : (x y : Bool) → (x && y) ≡ true → x ≡ true
-fst true y e = refl
-fst false y e = cc
+left_test : (x y : Bool) → (x && y) ≡ true → x ≡ true
+left_test true y e = refl
+left_test false y e = cc
 
-snd : (x y : Bool) → (x && y) ≡ true → y ≡ true
-snd true y e = e
-snd false y e = cc
+right_test : (x y : Bool) → (x && y) ≡ true → y ≡ true
+right_test true y e = e
+right_test false y e = cc
 
 hexes : (a b c d : ℕ) → are_hex a b c d ≡ true → Stays (a ∷ b ∷ c ∷ d ∷ [])
 hexes a b c d is =
-    let is2 = snd (is_digit a 16) (is_digit b 16 && (is_digit c 16 && is_digit d 16)) is in
-    let is3 = snd (is_digit b 16) (is_digit c 16 && is_digit d 16) is2 in
-    hex a (fst (is_digit a 16) (is_digit b 16 && (is_digit c 16 && is_digit d 16)) is)
-    (hex b (fst (is_digit b 16) (is_digit c 16 && is_digit d 16) is2)
-    (hex c (fst (is_digit c 16) (is_digit d 16) is3) (hex d (snd (is_digit c 16) (is_digit d 16) is3) nothing)))
+    let is2 = right_test (is_digit a 16) (is_digit b 16 && (is_digit c 16 && is_digit d 16)) is in
+    let is3 = right_test (is_digit b 16) (is_digit c 16 && is_digit d 16) is2 in
+    hex a (left_test (is_digit a 16) (is_digit b 16 && (is_digit c 16 && is_digit d 16)) is)
+    (hex b (left_test (is_digit b 16) (is_digit c 16 && is_digit d 16) is2)
+    (hex c (left_test (is_digit c 16) (is_digit d 16) is3) (hex d (right_test (is_digit c 16) (is_digit d 16) is3) nothing)))
 
 units : (a b c d : ℕ) → are_hex a b c d ≡ true → Stays (unit_text a b c d)
 units a b c d is = let four = hexes a b c d is in record { at = λ rest. ap (λ (l : List ℕ). 92 ∷ 117 ∷ l) (four.at rest) }
@@ -133,8 +133,8 @@ piece (escape form_feed) = record { at = λ rest. refl }
 piece (escape line_feed) = record { at = λ rest. refl }
 piece (escape carriage_return) = record { at = λ rest. refl }
 piece (escape tab) = record { at = λ rest. refl }
-piece (unit a b c d is) = units a b c d (fst (are_hex a b c d) (not (is_high_surrogate (code_unit a b c d)) && not (is_low_surrogate (code_unit a b c d))) is)
-piece (pair a b c d high e f g h low) = both (units a b c d (fst (are_hex a b c d) (is_high_surrogate (code_unit a b c d)) high)) (units e f g h (fst (are_hex e f g h) (is_low_surrogate (code_unit e f g h)) low))
+piece (unit a b c d is) = units a b c d (left_test (are_hex a b c d) (not (is_high_surrogate (code_unit a b c d)) && not (is_low_surrogate (code_unit a b c d))) is)
+piece (pair a b c d high e f g h low) = both (units a b c d (left_test (are_hex a b c d) (is_high_surrogate (code_unit a b c d)) high)) (units e f g h (left_test (are_hex e f g h) (is_low_surrogate (code_unit e f g h)) low))
 
 pieces : (ps : List Piece) → Stays (flat_map piece_text ps)
 pieces [] = nothing
@@ -223,3 +223,36 @@ squeezes text v s = record {
 
 pub alike : SqueezesAlike
 alike one other v w s t e = squeezed-value one v s ∙ ap (λ (u : Value). value_text u) e ∙ sym (squeezed-value other w t)
+
+-- an object, and an array, as they stand in the squeezed text
+pub stays_object : (text : List ℕ) → StaysObject text (squeezed text)
+stays_object text deep members o =
+    let v = o.value in
+    let spells = o.spells in
+    let spelling : IsSpelling text v = record { before = o.before; after = o.after; spelled = spells.spelled } in (
+      members_of 0 (dense v),
+      record {
+        before = [];
+        value = dense v;
+        after = [];
+        spells = record { utf8 = squeezed-utf8 text spells.utf8; object = dense-object v spells.object; spelled = squeezed-value text v spelling ∙ sym (append-nil (dense_text v)) };
+        deepest = o.deepest ∙ sym (dense-depth v);
+        places = refl;
+      },
+    )
+
+pub stays_array : (text : List ℕ) → StaysArray text (squeezed text)
+stays_array text deep spans o =
+    let v = o.value in
+    let spells = o.spells in
+    let spelling : IsSpelling text v = record { before = o.before; after = o.after; spelled = spells.spelled } in (
+      elements_of 0 (dense v),
+      record {
+        before = [];
+        value = dense v;
+        after = [];
+        spells = record { utf8 = squeezed-utf8 text spells.utf8; array = dense-array v spells.array; spelled = squeezed-value text v spelling ∙ sym (append-nil (dense_text v)) };
+        deepest = o.deepest ∙ sym (dense-depth v);
+        places = refl;
+      },
+    )

@@ -2,8 +2,10 @@
 use Rattle.std.specs.Prelude.{◌≡◌, ℕ, List, [], ◌++◌, IsUtf8}
 use Rattle.json_span.specs.Grammar as json
 use Rattle.json_span.specs.Grammar.{Space, space_text, Value, Items, Members, value_text, depth}
-use Rattle.json_span.specs.Members.{IsObjectValue, IsValue}
-use Rattle.json_span.specs.Elements.{IsArrayValue}
+use Rattle.json_span.specs.Members.{IsObject, IsObjectValue, IsValue}
+use Rattle.json_span.specs.Elements.{IsArray, IsArrayValue}
+use Rattle.json_span.specs.declared.Member.{Member}
+use Rattle.json_span.specs.declared.Span.{Span}
 use Rattle.json_squeeze.specs.Squeeze.{squeezed}
 
 -- the same tree, with no white space in it
@@ -48,6 +50,13 @@ pub record IsSqueezedValue (text : List ℕ) (v : Value) : Type 0 where
 
 abbrev pub SqueezesValues : Type 0
 SqueezesValues = (text : List ℕ) (v : Value) → IsSpelling text v → IsSqueezedValue text v
+
+-- An object stays one that nests as deep, and so does an array.
+abbrev pub StaysObject : List ℕ → List ℕ → Type 0
+StaysObject text made = (deep : ℕ) (members : List Member) → IsObject text deep members → (others : List Member) × IsObject made deep others
+
+abbrev pub StaysArray : List ℕ → List ℕ → Type 0
+StaysArray text made = (deep : ℕ) (spans : List Span) → IsArray text deep spans → (others : List Span) × IsArray made deep others
 
 -- Spellings of one value that differ in white space alone squeeze to the same bytes.
 abbrev pub SqueezesAlike : Type 0

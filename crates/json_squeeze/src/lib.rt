@@ -4,7 +4,7 @@
 ghost use Rattle.std.specs.Prelude.{◌≡◌, ◌≤◌, ◌<◌, ◌++◌, length, drop, slice_range, ◌≢◌, slice_index, false, IfOk, IsUtf8};
 ghost use Rattle.json_span.specs.Grammar.{Value};
 ghost use Rattle.json_squeeze.specs.Squeeze.{is_space as space_test, squeezed, in_string};
-ghost use Rattle.json_squeeze.specs.Dense.{dense_text, IsSpelling, SqueezesValues, SqueezesAlike, SqueezesOnce, KeepsUtf8};
+ghost use Rattle.json_squeeze.specs.Dense.{dense_text, IsSpelling, StaysObject, StaysArray, SqueezesValues, SqueezesAlike, SqueezesOnce, KeepsUtf8};
 
 use outside::{Bytes, NoMemory};
 use std::alloc::Global;
@@ -15,6 +15,8 @@ pub fn squeeze(alloc: Global, text: &[u8]) -> Result<Bytes, NoMemory>
     ensures squeezed { IfOk result (λ made. made ≡ squeezed text.now) }
     ensures dense { IfOk result (λ made. (v : Value) → IsSpelling text.now v → made ≡ dense_text v) }
     ensures utf8 { IfOk result (λ made. IsUtf8 text.now → IsUtf8 made) }
+    ensures object { IfOk result (StaysObject text.now) }
+    ensures array { IfOk result (StaysArray text.now) }
 {
     let mut made = Vec::with_capacity(alloc, text.len())?;
     let mut at = 0;
