@@ -1,6 +1,6 @@
 -- Which states are the same: how a state that a destination sends back is known again. White space outside strings
 -- does not count, an absent blob counts as `null`, and record counts are not compared.
-use Rattle.std.specs.Prelude.{◌≡◌, ℕ, List, Option, None, Some, map, codes}
+use Rattle.std.specs.Prelude.{◌≡◌, ◌≢◌, ℕ, List, Option, None, Some, map, codes}
 use Rattle.outside.specs.declared.event.StreamId.{StreamId}
 use Rattle.json_squeeze.specs.Squeeze.{squeezed}
 use Rattle.airbyte_message.specs.declared.message.StateMsg.{StateMsg}
@@ -25,3 +25,9 @@ IsSameKind _ _ = ⊥
 
 abbrev pub Same : StateMsg → StateMsg → Type 0
 Same a b = IsSameKind a.kind b.kind
+
+-- A state that is not Legacy is the same as itself, and being the same goes both ways and from one to the next.
+pub record SameLaws : Type 0 where
+  pub itself : (a : StateMsg) → a.kind ≢ kind.Legacy → Same a a
+  pub turned : (a b : StateMsg) → Same a b → Same b a
+  pub onward : (a b c : StateMsg) → Same a b → Same b c → Same a c

@@ -27,5 +27,5 @@ pub use message::{
     StateMsg, StreamBlob, StreamBlobList, TraceMsg,
 };
 pub use read::read_message;
-pub use same::same_state;
+pub use same::{same_laws, same_state};
 pub use stream_status::StreamStatus;

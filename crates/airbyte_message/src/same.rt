@@ -1,6 +1,6 @@
 // Which states are the same.
 ghost use Rattle.std.specs.Prelude.{◌≡◌, ◌↔◌, IfOk, IsTrue, map};
-ghost use Rattle.airbyte_message.specs.Same.{IsSameKind, Same, blob_form, part_form};
+ghost use Rattle.airbyte_message.specs.Same.{IsSameKind, Same, SameLaws, blob_form, part_form};
 
 use crate::{Raw, StateKind, StateMsg, StreamBlob, StreamBlobList};
 use json_squeeze::squeeze;
@@ -128,3 +128,8 @@ pub fn same_state(alloc: Global, a: &StateMsg, b: &StateMsg) -> Result<bool, NoM
         StateKind::Legacy => Ok(false),
     }
 }
+
+/// A law: a state that is not Legacy is the same as itself, and being the same goes both ways and from one to the next.
+pub fn same_laws()
+    ensures { SameLaws }
+{}
