@@ -71,13 +71,13 @@ pub record HasStateForms (content : StateMsg) : Type 0 where
   pub value : IsValueWithin state_depth content.object
   pub state : IsState content.object content
 
-pub record HasErrorForms (text : List ℕ) (emitted_at : Option (List ℕ)) : Type 0 where
-  pub text : IsUtf8 text
-  pub emitted_at : IsOptionalNumber emitted_at
+pub record HasErrorForms (message : List ℕ) (emitted_at : Option (List ℕ)) : Type 0 where
+  pub text : IsUtf8 message
+  pub number : IsOptionalNumber emitted_at
 
 pub record HasStatusForms (id : StreamId) (emitted_at : Option (List ℕ)) : Type 0 where
-  pub id : HasNames id
-  pub emitted_at : IsOptionalNumber emitted_at
+  pub names : HasNames id
+  pub number : IsOptionalNumber emitted_at
 
 -- the object is that of a trace of another type
 pub record HasOtherForms (object : List ℕ) : Type 0 where

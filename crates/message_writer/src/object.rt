@@ -43,11 +43,7 @@ pub fn put_text(
 }
 
 // Puts a further member where its value is there.
-pub fn put_optional(
-    text: &mut Vec<u8>,
-    name: &str,
-    value: &Option<Bytes>,
-) -> Result<(), NoMemory>
+pub fn put_optional(text: &mut Vec<u8>, name: &str, value: &Option<Bytes>) -> Result<(), NoMemory>
     ensures { OnOk result (text.new.items ≡ text.old.items ++ more_text (optional name.now value.now [])) }
 {
     match value {

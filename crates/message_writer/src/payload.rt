@@ -10,11 +10,7 @@ use outside::NoMemory;
 use std::alloc::Global;
 
 // Puts the `record` of a RECORD line.
-pub fn put_record(
-    alloc: Global,
-    text: &mut Vec<u8>,
-    content: &RecordMsg,
-) -> Result<(), NoMemory>
+pub fn put_record(alloc: Global, text: &mut Vec<u8>, content: &RecordMsg) -> Result<(), NoMemory>
     ensures { OnOk result (text.new.items ≡ text.old.items ++ record_text content.now) }
 {
     put_id(alloc, text, "stream", &content.id)?;

@@ -21,7 +21,10 @@ fn put_failure(
     ensures { OnOk result (text.new.items ≡ text.old.items ++ more_text (optional (codes "failure_type") (option_map (λ f. quoted (failure_text f)) failure.now) [])) }
 {
     match failure {
-        Some(held) => put_text(alloc, text, b',', "failure_type", held.text()),
+        Some(held) => {
+            put_text(alloc, text, b',', "failure_type", held.text())?;
+            Ok(())
+        }
         None => Ok(()),
     }
 }
