@@ -1,3 +1,4 @@
 pub mod Numerals
 pub mod Strings
 pub mod Texts
+pub mod Trees
