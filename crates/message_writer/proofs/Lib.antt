@@ -1,3 +1,4 @@
+pub mod Fields
 pub mod Numerals
 pub mod Strings
 pub mod Texts

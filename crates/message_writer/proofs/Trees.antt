@@ -182,3 +182,62 @@ module _ (limit : ℕ) (text name : List ℕ) where
         holds_tree parts s.1 (before_next text front 44 part rest from is_at split) (member_end start key [] [] v []) (next_place text front 44 part rest from is_at split start place key v k w) (next_split text front 44 part rest from is_at split),
         holds_here text name part (member_at start key [] [] v) s.0.name (cut_member text front 44 part rest from is_at split start place key v k w) (last_of name parts),
       )
+
+-- ---- the object
+
+-- a text that is read back as an object of these parts
+pub record Reads (limit : ℕ) (text : List ℕ) (parts : List Part) : Type 0 where
+  pub value : IsValueWithin limit text
+  pub members : List Member
+  pub object : AreMembers line_depth text members
+  pub holds : (name : List ℕ) → Holds text name members (last_of name parts)
+
+module _ (limit : ℕ) (part : Part) (parts : List Part) (s : AreSound limit (part ∷ parts)) where
+  whole : Value
+  whole = json.object [] (key_of limit part s.0) [] [] (tree_of limit part s.0) [] (tree limit parts s.1)
+
+  whole_spelled : object_text (part ∷ parts) ≡ value_text whole
+  unfolding whole
+  whole_spelled = sym (ap (λ (l : List ℕ). 123 ∷ l) (part_spelled limit part s.0 (members_text (tree limit parts s.1)) (parts_text parts) (tree_spelled limit parts s.1)))
+
+  whole_within : (outer : ℕ) → limit < outer → depth whole ≤ outer
+  unfolding whole
+  whole_within outer less = let here = value_within limit part s.0 in let more = tree_within limit parts s.1 in omega arith
+
+  whole_utf8 : IsUtf8 (object_text (part ∷ parts))
+  whole_utf8 = utf8_before 123 (part_before part (parts_text parts)) refl (part_utf8 limit part s.0 (parts_text parts) (parts_utf8 limit parts s.1))
+
+  whole_object : IsObject (object_text (part ∷ parts)) (depth whole) (members_of 0 whole)
+  unfolding whole
+  whole_object = record {
+    before = [];
+    value = whole;
+    after = [];
+    spells = record { utf8 = whole_utf8; object = tt; spelled = whole_spelled ∙ sym (append-nil (value_text whole)) };
+    deepest = refl;
+    places = refl;
+  }
+
+  whole_holds : (name : List ℕ) → Holds (object_text (part ∷ parts)) name (members_of 0 whole) (last_of name (part ∷ parts))
+  unfolding whole
+  whole_holds name =
+      let text = object_text (part ∷ parts) in
+      let key = key_of limit part s.0 in
+      let v = tree_of limit part s.0 in
+      let k = key_is limit part s.0 in
+      let w = value_is limit part s.0 in
+      let start = 0 + 1 + length (space_text []) in
+      let rest = parts_text parts in
+      let place : start ≡ 0 + 1 = omega arith in (
+        last_of name parts,
+        holds_tree limit text name parts s.1 (before_next text [] 123 part rest 0 refl refl) (member_end start key [] [] v []) (next_place text [] 123 part rest 0 refl refl start place key v k w) (next_split text [] 123 part rest 0 refl refl),
+        holds_here text name part (member_at start key [] [] v) s.0.name (cut_member text [] 123 part rest 0 refl refl start place key v k w) (last_of name parts),
+      )
+
+  pub reads : (outer : ℕ) → limit < outer → outer ≤ line_depth → Reads outer (object_text (part ∷ parts)) (part ∷ parts)
+  reads outer less le = record {
+    value = record { is = record { utf8 = whole_utf8; value = whole; spelled = whole_spelled }; within = whole_within outer less };
+    members = members_of 0 whole;
+    object = record { deep = depth whole; within = (let within = whole_within outer less in omega arith); object = whole_object };
+    holds = whole_holds;
+  }
