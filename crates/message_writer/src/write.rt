@@ -1,6 +1,8 @@
 // The line of a message.
 ghost use Rattle.std.specs.Prelude.{◌≡◌, ◌++◌, IfOk, OnOk};
 ghost use Rattle.airbyte_message.specs.Words.{payload_text, type_text};
+ghost use Rattle.airbyte_message.specs.Messages.{IsMessage};
+ghost use Rattle.message_writer.specs.Forms.{HasForms};
 ghost use Rattle.message_writer.specs.Written.{payload_of, type_of, written};
 
 use crate::object::{put_name, put_text};
@@ -68,9 +70,10 @@ fn put_payload(alloc: Global, line: &mut Vec<u8>, message: &Message) -> Result<(
 
 /// The line of a message, without a newline: its members in the order of the protocol, without white space. Texts
 /// are quoted as `serde_json` quotes them, raw parts stand as they are, and optional parts are left out where they
-/// are absent.
+/// are absent. Where the parts have the forms that the protocol asks for, the line is read as the same message.
 pub fn write_message(alloc: Global, message: &Message) -> Result<Bytes, NoMemory>
-    ensures { IfOk result (λ line. line ≡ written message.now) }
+    ensures written { IfOk result (λ line. line ≡ written message.now) }
+    ensures reads_back { HasForms message.now → IfOk result (λ line. IsMessage line message.now) }
 {
     let mut line = Vec::new(alloc);
     put_text(alloc, &mut line, b'{', "type", type_name(message))?;
