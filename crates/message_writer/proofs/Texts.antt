@@ -1,6 +1,7 @@
 -- The text of an object grows by one member after another.
-use Rattle.std.proofs.Common.{◌≡◌, ℕ, List, [], ◌∷◌, ◌++◌, Option, None, Some, refl, sym, ◌∙◌, ap, append_assoc}
+use Rattle.std.proofs.Common.{◌≡◌, ℕ, List, [], ◌∷◌, ◌++◌, Option, None, Some, refl, sym, ◌∙◌, ap, append_assoc, codes}
 use Rattle.std.specs.Prelude.{option_map}
+use Rattle.json.specs.Print.{quoted}
 use Rattle.json_scalar.specs.Quotes.{in_quotes}
 use Rattle.message_writer.specs.Objects.{Part, part_before, parts_text, object_text, optional, more_text}
 
@@ -77,3 +78,10 @@ told_closes old typed head told next type at emitted_at name value e f g h =
     let member = named 44 typed head told name value f g in
     let all = grows old typed told type (optional at emitted_at []) ((name, value) ∷ []) first member in
     closes old told next type (optional at emitted_at ((name, value) ∷ [])) (all ∙ ap (λ (ps : List Part). old ++ opened type ps) (told_parts type (name, value) at emitted_at)) h
+
+-- a line: its type, and one member more
+pub line_closes : (start typed head told next : List ℕ) (type name named_as type_as value : List ℕ) → start ≡ [] → typed ≡ start ++ opened (codes "type", quoted type) [] → head ≡ typed ++ 44 ∷ (in_quotes name ++ 58 ∷ []) → told ≡ head ++ value → next ≡ told ++ 125 ∷ [] → type ≡ type_as → name ≡ named_as → next ≡ object_text ((codes "type", quoted type_as) ∷ (named_as, value) ∷ [])
+line_closes start typed head told next type name named_as type_as value e f g h k t n =
+    let member = named 44 typed head told name value g h in
+    let all = grows start typed told (codes "type", quoted type) [] ((name, value) ∷ []) f member in
+    closes start told next (codes "type", quoted type) ((name, value) ∷ []) all k ∙ (λ i. e i ++ object_text ((codes "type", quoted (t i)) ∷ (n i, value) ∷ []))
