@@ -1,16 +1,14 @@
 -- What is read of an object that is written: its fields, texts, numbers and streams.
-use Rattle.std.proofs.Common.{◌≡◌, ◌≢◌, ℕ, ◌+◌, ◌<◌, ◌≤◌, ◌^◌, Bool, true, false, cond, List, [], ◌∷◌, ◌++◌, get_or, Option, None, Some, option_map, IsUtf8, bytes_eq, codes, inl, inr, refl, sym, ap, ◌∙◌, subst, arith}
+use Rattle.std.proofs.Common.{◌≡◌, ◌≢◌, ℕ, ◌<◌, ◌^◌, Bool, true, false, cond, List, get_or, Option, None, Some, option_map, IsUtf8, bytes_eq, codes, inl, inr, refl, sym, ap, ◌∙◌, subst, arith}
 use Rattle.std.proofs.lemmas.Bool.{true≢false}
 use Rattle.std.proofs.lemmas.Slice.Eq.{bytes_eq-Decides}
 use Rattle.std.specs.Char.{is_ascii_digit}
 use Rattle.std.specs.Fmt.{decimal}
 use Rattle.json.specs.Print.{quoted}
-use Rattle.json_span.specs.Grammar.{value_text}
 use Rattle.json_span.specs.Members.{IsSomeObject}
 use Rattle.json_span.specs.Elements.{IsSomeArray}
-use Rattle.json_fields.specs.Fields.{HasField, HasOptional, HasText, HasOptionalText, Holds, IsOptionalText, present, line_depth}
-use Rattle.outside.specs.declared.event.StreamId.{StreamId}
-use Rattle.airbyte_message.specs.Parts.{HasCount, HasObject, HasArray, HasOptionalNumber, IsNumber, IsOptionalNumber, IsStreamId, HasDescriptor}
+use Rattle.json_fields.specs.Fields.{HasField, HasOptional, HasText, HasOptionalText, Holds, IsOptionalText, present}
+use Rattle.airbyte_message.specs.Parts.{HasCount, HasObject, HasArray, HasOptionalNumber, IsNumber, IsOptionalNumber}
 use Rattle.airbyte_message.proofs.PartLemmas.{IsFirstOfNumber, number_tells}
 use Rattle.message_writer.specs.Objects.{Part}
 use Rattle.message_writer.specs.Forms.{IsOptionalUtf8, IsOptionalPart}

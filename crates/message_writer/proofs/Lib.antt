@@ -1,3 +1,4 @@
+pub mod Depths
 pub mod Fields
 pub mod Numerals
 pub mod Payloads

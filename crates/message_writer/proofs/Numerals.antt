@@ -1,11 +1,11 @@
 -- The decimal text of a number is a JSON number with that value.
-use Rattle.std.proofs.Common.{◌≡◌, ℕ, ◌+◌, ◌*◌, ◌/◌, ◌%◌, ◌^◌, ◌<◌, ◌≤◌, Bool, true, false, List, [], ◌∷◌, ◌++◌, map, fold, Option, None, Some, inl, inr, refl, sym, ap, ◌∙◌, subst, arith, append-nil}
+use Rattle.std.proofs.Common.{◌≡◌, ℕ, ◌+◌, ◌*◌, ◌/◌, ◌%◌, ◌^◌, ◌<◌, ◌≤◌, false, List, [], ◌∷◌, ◌++◌, None, inl, inr, refl, sym, ap, ◌∙◌, arith, append-nil}
 use Rattle.std.proofs.lemmas.Bool.{cases_eq, true≢false}
 use Rattle.std.proofs.lemmas.Fmt.{decimal_by_steps}
 use Rattle.std.proofs.lemmas.List.Sums.{fold-append}
 use Rattle.std.proofs.Math.Nat.{mod-lt}
 use Rattle.std.specs.Fmt.{decimal}
-use Rattle.json_scalar.specs.Number.{Digit, Whole, nought, counted, Literal, IsWhole, digits_text, digits_value, whole_digits, literal_text}
+use Rattle.json_scalar.specs.Number.{Digit, Whole, nought, counted, Literal, IsWhole, digits_text, digits_value, whole_digits}
 
 -- digits that spell a number, of which the first is not 0, or 0 alone
 record Spells (n : ℕ) (text : List ℕ) : Type 0 where

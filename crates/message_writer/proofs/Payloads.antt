@@ -1,5 +1,5 @@
 -- What each kind of payload reads back as.
-use Rattle.std.proofs.Common.{◌≡◌, ℕ, ◌+◌, ◌-◌, ◌<◌, ◌≤◌, ◌^◌, Bool, true, false, List, [], ◌∷◌, ◌++◌, Option, None, Some, option_map, IsUtf8, codes, refl, sym, ap, ◌∙◌, subst, arith}
+use Rattle.std.proofs.Common.{◌≡◌, ℕ, ◌-◌, Bool, true, false, List, [], ◌∷◌, Option, None, Some, option_map, IsUtf8, codes, refl, sym, ◌∙◌, subst, arith}
 use Rattle.std.specs.Fmt.{decimal}
 use Rattle.json.specs.Print.{quoted}
 use Rattle.json.proofs.Printed.Utf8.{IsUtf8-are_ascii}
@@ -8,7 +8,7 @@ use Rattle.outside.specs.declared.event.StreamId.{StreamId}
 use Rattle.airbyte_message.specs.Parts.{IsStreamId, HasDescriptor, IsOptionalNumber}
 use Rattle.airbyte_message.specs.Words.{level_text, failure_text, status_text, connection_text, trace_text, type_text, payload_text}
 use Rattle.airbyte_message.specs.States.{state_depth}
-use Rattle.airbyte_message.specs.Traces.{IsTrace, HasError, HasStatus}
+use Rattle.airbyte_message.specs.Traces.{IsTrace}
 use Rattle.airbyte_message.specs.Messages.{IsRecord, IsLog, IsSpec, IsConnection, IsCatalog, IsPayload, IsMessage}
 use Rattle.airbyte_message.specs.declared.level.Level.{Level}
 use Rattle.airbyte_message.specs.declared.level.Level.TheVariants as level
@@ -30,12 +30,12 @@ use Rattle.airbyte_message.specs.declared.message.SpecMsg.{SpecMsg}
 use Rattle.airbyte_message.specs.declared.message.ConnectionMsg.{ConnectionMsg}
 use Rattle.airbyte_message.specs.declared.message.CatalogMsg.{CatalogMsg}
 use Rattle.message_writer.specs.Objects.{Part, object_text, optional}
-use Rattle.message_writer.specs.Written.{id_parts, record_text, log_text, spec_text, status_object, catalog_text, told_text, error_text, stream_status_text, trace_object, type_of, payload_of, line_text, written}
+use Rattle.message_writer.specs.Written.{id_parts, record_text, log_text, spec_text, status_object, catalog_text, told_text, error_text, stream_status_text, trace_object, line_text, written}
 use Rattle.message_writer.specs.Forms.{IsValueWithin, IsOptionalUtf8, IsObjectPart, IsArrayPart, HasNames, HasRecordForms, HasTraceForms, HasForms, payload_depth, part_depth}
 use Rattle.message_writer.proofs.Fields.{has_field, has_optional, has_text, has_optional_text, has_count, has_object, has_array, has_optional_number, part_present}
-use Rattle.message_writer.proofs.Sounds.{IsOptionalWithin, within_more, text_within, decimal_within, optional_text_within, optional_number_within, optional_part_within, optional_sound}
+use Rattle.message_writer.proofs.Sounds.{IsOptionalWithin, within_more, text_within, decimal_within, optional_text_within, optional_number_within, optional_part_within, optional_sound, nested_within, object_part_within, object_part_is, array_part_within, array_part_is}
 use Rattle.message_writer.proofs.Strings.{is_word}
-use Rattle.message_writer.proofs.Trees.{IsSound, AreSound, Reads, reads, last_of}
+use Rattle.message_writer.proofs.Trees.{AreSound, Reads, reads, last_of}
 
 -- ---- words are ASCII
 
@@ -100,7 +100,7 @@ record_payload content h =
     let parts = record_parts name space content.body count content.meta in
     let meta_sound : AreSound part_depth (optional (codes "meta") content.meta []) = optional_sound part_depth (codes "meta") content.meta [] refl (optional_part_within content.meta h.meta) tt in
     let tail_sound : AreSound part_depth ((codes "data", content.body) ∷ (codes "emitted_at", count) ∷ optional (codes "meta") content.meta []) =
-    (record { name = refl; value = h.body.value }, (record { name = refl; value = decimal_within part_depth content.emitted_at h.emitted_at }, meta_sound)) in
+    (record { name = refl; value = object_part_within content.body h.body }, (record { name = refl; value = decimal_within part_depth content.emitted_at h.emitted_at }, meta_sound)) in
     let sound : AreSound part_depth parts =
     (record { name = refl; value = text_within part_depth content.id.name h.id.name }, optional_sound part_depth (codes "namespace") space _ refl (optional_text_within part_depth content.id.namespace h.id.namespace) tail_sound) in
     let r : Reads payload_depth text parts = reads part_depth _ _ sound payload_depth (omega arith) (omega arith) in
@@ -112,7 +112,7 @@ record_payload content h =
           name = has_text payload_depth text parts r (codes "stream") content.id.name h.id.name f.stream_is;
           namespace = has_optional_text payload_depth text parts r (codes "namespace") content.id.namespace h.id.namespace f.space_is;
         };
-        body = has_object payload_depth text parts r (codes "data") content.body h.body.object f.body_is;
+        body = has_object payload_depth text parts r (codes "data") content.body (object_part_is content.body h.body) f.body_is;
         emitted_at = has_count payload_depth text parts r (codes "emitted_at") content.emitted_at h.emitted_at f.emitted_at_is;
         meta = has_optional payload_depth text parts r (codes "meta") content.meta f.meta_is (part_present content.meta h.meta);
       };
@@ -141,9 +141,9 @@ pub spec_payload : (content : SpecMsg) → IsObjectPart content.specification �
 spec_payload content h =
     let text = spec_text content in
     let parts : List Part = (codes "connectionSpecification", content.specification) ∷ [] in
-    let sound : AreSound part_depth parts = (record { name = refl; value = h.value }, tt) in
+    let sound : AreSound part_depth parts = (record { name = refl; value = object_part_within content.specification h }, tt) in
     let r : Reads payload_depth text parts = reads part_depth _ _ sound payload_depth (omega arith) (omega arith) in
-    record { value = r.value; is = record { specification = has_object payload_depth text parts r (codes "connectionSpecification") content.specification h.object refl } }
+    record { value = r.value; is = record { specification = has_object payload_depth text parts r (codes "connectionSpecification") content.specification (object_part_is content.specification h) refl } }
 
 -- ---- CATALOG
 
@@ -151,9 +151,9 @@ pub catalog_payload : (content : CatalogMsg) → IsArrayPart content.streams →
 catalog_payload content h =
     let text = catalog_text content in
     let parts : List Part = (codes "streams", content.streams) ∷ [] in
-    let sound : AreSound part_depth parts = (record { name = refl; value = h.value }, tt) in
+    let sound : AreSound part_depth parts = (record { name = refl; value = array_part_within content.streams h }, tt) in
     let r : Reads payload_depth text parts = reads part_depth _ _ sound payload_depth (omega arith) (omega arith) in
-    record { value = r.value; is = record { streams = has_array payload_depth text parts r (codes "streams") content.streams h.array refl } }
+    record { value = r.value; is = record { streams = has_array payload_depth text parts r (codes "streams") content.streams (array_part_is content.streams h) refl } }
 
 -- ---- CONNECTION_STATUS
 
@@ -330,7 +330,7 @@ trace_payload (trace.Status id status emitted_at) h =
         is = (record { held = held; field = has_field payload_depth text parts r (codes "stream_status") held f.value_is; stream = s.is.stream; status = s.is.is }, refl);
       };
     }
-trace_payload (trace.Other object) h = record { value = h.value; is = h.trace }
+trace_payload (trace.Other object) h = record { value = nested_within payload_depth object h.value h.nests; is = h.trace }
 
 -- ---- the line
 
@@ -371,10 +371,10 @@ line_is type payload content within is =
 
 pub written_is : (content : Message) → HasForms content → IsMessage (written content) content
 written_is (message.Rec content) h = let p = record_payload content h in line_is types.Rec (record_text content) (message.Rec content) p.value p.is
-written_is (message.State content) h = line_is types.State content.object (message.State content) (within_more state_depth payload_depth content.object (omega arith) h.value) h.state
+written_is (message.State content) h = line_is types.State content.object (message.State content) (within_more state_depth payload_depth content.object (omega arith) (nested_within state_depth content.object h.value h.state.nests)) h.state
 written_is (message.Log content) h = let p = log_payload content h in line_is types.Log (log_text content) (message.Log content) p.value p.is
 written_is (message.Spec content) h = let p = spec_payload content h in line_is types.Spec (spec_text content) (message.Spec content) p.value p.is
 written_is (message.Connection content) h = let p = connection_payload content h in line_is types.Connection (status_object content) (message.Connection content) p.value p.is
 written_is (message.Catalog content) h = let p = catalog_payload content h in line_is types.Catalog (catalog_text content) (message.Catalog content) p.value p.is
 written_is (message.Trace content) h = let p = trace_payload content h in line_is types.Trace (trace_object content) (message.Trace content) p.value p.is
-written_is (message.Control content) h = line_is types.Control content.object (message.Control content) h.value h.control
+written_is (message.Control content) h = line_is types.Control content.object (message.Control content) (nested_within payload_depth content.object h.value h.nests) h.control

@@ -1,21 +1,22 @@
 -- The parts of a message are values that nest little, under names that are words.
-use Rattle.std.proofs.Common.{◌≡◌, ℕ, ◌+◌, ◌<◌, ◌≤◌, ◌^◌, Bool, true, false, nat_lt, List, [], ◌∷◌, ◌++◌, Option, None, Some, option_map, IsUtf8, codes, refl, sym, ap, ◌∙◌, subst, arith}
+use Rattle.std.proofs.Common.{◌≡◌, ℕ, ◌+◌, ◌<◌, ◌≤◌, ◌^◌, Bool, true, false, List, [], ◌∷◌, ◌++◌, Option, None, Some, option_map, IsUtf8, refl, sym, subst, arith}
 use Rattle.std.specs.Prelude.{if◌then◌else◌}
 use Rattle.std.proofs.lemmas.Bool.{lt-ltb}
-use Rattle.std.proofs.lemmas.Fmt.{IsAscii-decimal}
-use Rattle.std.proofs.lemmas.Str.{IsUtf8-append, IsUtf8-nil, IsUtf8-from_ascii}
+use Rattle.std.proofs.lemmas.Str.{IsUtf8-append, IsUtf8-nil}
 use Rattle.std.specs.Fmt.{decimal}
 use Rattle.json.specs.Print.{quoted}
 use Rattle.json_scalar.specs.Number.{Digit, Digits, Sign, unsigned, plus, minus, Exponent, Literal, digits_text, whole_digits, all_digits, sign_text, fraction_text, exponent_text, literal_text}
 use Rattle.json_span.specs.Grammar as json
 use Rattle.json_span.specs.Grammar.{depth}
-use Rattle.airbyte_message.specs.Parts.{IsNumber, IsOptionalNumber}
-use Rattle.airbyte_message.specs.Words.{level_text, failure_text, status_text, connection_text, trace_text, type_text}
+use Rattle.json_span.specs.Members.{IsValue, IsSomeObject}
+use Rattle.json_span.specs.Elements.{IsSomeArray}
+use Rattle.airbyte_message.specs.Parts.{IsNumber, IsOptionalNumber, NestsWithin}
 use Rattle.message_writer.specs.Objects.{Part, optional}
-use Rattle.message_writer.specs.Forms.{IsValueWithin, IsOptionalPart, IsOptionalUtf8, part_depth}
+use Rattle.message_writer.specs.Forms.{IsValueWithin, IsObjectPart, IsArrayPart, IsOptionalPart, IsOptionalUtf8, part_depth}
+use Rattle.message_writer.proofs.Depths.{object_within, array_within}
 use Rattle.message_writer.proofs.Numerals.{decimal_literal}
 use Rattle.message_writer.proofs.Strings.{is_word, quoted_string, utf8_before}
-use Rattle.message_writer.proofs.Trees.{IsSound, AreSound}
+use Rattle.message_writer.proofs.Trees.{AreSound}
 
 pub within_more : (limit outer : ℕ) (text : List ℕ) → limit ≤ outer → IsValueWithin limit text → IsValueWithin outer text
 within_more limit outer text le v = record { is = v.is; within = (let h = v.within in omega arith) }
@@ -66,6 +67,23 @@ number_within limit text number = record {
 
 pub decimal_within : (limit n : ℕ) → n < 2 ^ 63 → IsValueWithin limit (decimal n)
 decimal_within limit n small = let w = decimal_literal n small in number_within limit (decimal n) (record { literal = w.literal; spelled = w.spelled })
+
+-- ---- objects and arrays
+
+pub nested_within : (limit : ℕ) (text : List ℕ) → IsValue text → NestsWithin limit text → IsValueWithin limit text
+nested_within limit text value nests = object_within limit text nests.members value nests.object
+
+pub object_part_within : (text : List ℕ) → IsObjectPart text → IsValueWithin part_depth text
+object_part_within text h = nested_within part_depth text h.value h.nests
+
+pub object_part_is : (text : List ℕ) → IsObjectPart text → IsSomeObject text
+object_part_is text h = record { deep = h.nests.object.deep; members = h.nests.members; object = h.nests.object.object }
+
+pub array_part_within : (text : List ℕ) → IsArrayPart text → IsValueWithin part_depth text
+array_part_within text h = array_within part_depth text h.spans h.value h.nests
+
+pub array_part_is : (text : List ℕ) → IsArrayPart text → IsSomeArray text
+array_part_is text h = record { deep = h.nests.deep; spans = h.spans; array = h.nests.array }
 
 -- ---- optional values
 

@@ -1,13 +1,13 @@
 -- Words of the protocol and texts, between quotation marks, are JSON strings.
-use Rattle.std.proofs.Common.{◌≡◌, ◌≢◌, ℕ, zero, suc, ◌/◌, ◌%◌, ◌<◌, ◌≤◌, Bool, true, false, cond, not, ◌&&◌, ◌||◌, ◌==◌, nat_lt, nat_le, List, [], ◌∷◌, ◌++◌, flat_map, IsTrue, IsUtf8, inl, inr, refl, sym, ap, ◌∙◌, subst, arith, append_assoc}
+use Rattle.std.proofs.Common.{◌≡◌, ◌≢◌, ℕ, zero, suc, ◌/◌, ◌%◌, ◌<◌, ◌≤◌, Bool, true, cond, not, ◌&&◌, ◌||◌, ◌==◌, nat_lt, nat_le, List, [], ◌∷◌, ◌++◌, flat_map, IsUtf8, inl, inr, refl, sym, ap, ◌∙◌, subst, arith}
 use Rattle.std.proofs.lemmas.Bool.{and_parts, and_from, cases_eq, cases_lt, ne_eqb, le-leb, lt-ltb, true≢false, eqb-true}
-use Rattle.std.proofs.lemmas.Str.{IsUtf8-append, IsUtf8-nil, encode_ascii}
+use Rattle.std.proofs.lemmas.Str.{IsUtf8-append, encode_ascii}
 use Rattle.std.specs.Char.{digit_char}
 use Rattle.std.specs.Prelude.{encode_utf8}
 use Rattle.json.specs.Print.{escape, escape_byte, quoted}
 use Rattle.json.specs.Print as print
 use Rattle.json.proofs.Printed.Strings.{escape_byte_plain}
-use Rattle.json.proofs.Printed.Utf8.{are_ascii, IsUtf8-are_ascii, IsUtf8-quoted}
+use Rattle.json.proofs.Printed.Utf8.{IsUtf8-are_ascii, IsUtf8-quoted}
 use Rattle.json_scalar.specs.Text.{Piece, Escape, IsString, escape_meaning, is_plain, are_whole, code_unit, piece_text, piece_meaning, string_text}
 use Rattle.json_scalar.specs.Quotes.{in_quotes}
 

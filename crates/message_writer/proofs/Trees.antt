@@ -1,16 +1,16 @@
 -- An object that is written from parts, as a tree of the grammar, and what its members hold.
-use Rattle.std.proofs.Common.{◌≡◌, ◌≢◌, ◌⊎◌, inl, inr, ℕ, suc, ◌+◌, ◌<◌, ◌≤◌, max, Bool, true, false, List, [], ◌∷◌, ◌++◌, length, flat_map, Option, None, Some, IsUtf8, bytes_eq, refl, sym, ap, ◌∙◌, subst, arith, append_assoc, append-nil, length-append}
+use Rattle.std.proofs.Common.{◌≡◌, inl, inr, ℕ, ◌+◌, ◌<◌, ◌≤◌, Bool, true, false, List, [], ◌∷◌, ◌++◌, length, Option, None, Some, IsUtf8, bytes_eq, refl, sym, ap, ◌∙◌, subst, arith, append_assoc, append-nil, length-append}
 use Rattle.std.proofs.lemmas.Str.{IsUtf8-append, IsUtf8-nil}
 use Rattle.std.proofs.lemmas.Bool.{true≢false}
 use Rattle.std.proofs.lemmas.Slice.Eq.{bytes_eq-Decides}
-use Rattle.json_scalar.specs.Text.{Piece, IsString, piece_text, string_text}
+use Rattle.json_scalar.specs.Text.{Piece, IsString, string_text}
 use Rattle.json_scalar.specs.Quotes.{in_quotes}
 use Rattle.json_span.specs.Grammar as json
 use Rattle.json_span.specs.Grammar.{Space, Value, Members, value_text, members_text, depth, members_depth, space_text, member_at, member_end, members_from}
-use Rattle.json_span.specs.Members.{AreMembers, IsObject, IsObjectValue, Spells, members_of, text_at}
+use Rattle.json_span.specs.Members.{AreMembers, IsObject, members_of, text_at}
 use Rattle.json_span.specs.declared.Member.{Member}
 use Rattle.json_span.proofs.Parts.{part_at}
-use Rattle.json_fields.specs.Fields.{IsNamed, Holds, HoldsBefore, line_depth}
+use Rattle.json_fields.specs.Fields.{Holds, HoldsBefore, line_depth}
 use Rattle.message_writer.specs.Objects.{Part, part_before, parts_text, object_text}
 use Rattle.message_writer.specs.Forms.{IsValueWithin}
 use Rattle.message_writer.proofs.Strings.{is_word, word_utf8, word_pieces, word_string, word_only, utf8_before}

@@ -2,12 +2,13 @@
 -- version 0) asks of the members that hold them, and no more.
 use Rattle.std.specs.Prelude.{◌≢◌, ℕ, ◌-◌, ◌<◌, ◌≤◌, ◌^◌, List, Option, None, Some, IsUtf8, codes}
 use Rattle.json_span.specs.Grammar.{depth}
-use Rattle.json_span.specs.Members.{IsValue, IsSomeObject}
-use Rattle.json_span.specs.Elements.{IsSomeArray}
+use Rattle.json_span.specs.Members.{IsValue}
+use Rattle.json_span.specs.Elements.{AreElements}
+use Rattle.json_span.specs.declared.Span.{Span}
 use Rattle.json_fields.specs.Fields.{line_depth}
 use Rattle.outside.specs.declared.event.StreamId.{StreamId}
-use Rattle.airbyte_message.specs.Parts.{IsOptionalNumber}
-use Rattle.airbyte_message.specs.States.{IsState, state_depth}
+use Rattle.airbyte_message.specs.Parts.{IsOptionalNumber, NestsWithin}
+use Rattle.airbyte_message.specs.States.{IsState}
 use Rattle.airbyte_message.specs.Traces.{IsTrace}
 use Rattle.airbyte_message.specs.Messages.{IsControl}
 use Rattle.airbyte_message.specs.declared.message.Message.{Message}
@@ -32,13 +33,14 @@ part_depth = line_depth - 2
 
 -- the part is a JSON object
 pub record IsObjectPart (text : List ℕ) : Type 0 where
-  pub value : IsValueWithin part_depth text
-  pub object : IsSomeObject text
+  pub value : IsValue text
+  pub nests : NestsWithin part_depth text
 
 -- the part is a JSON array
 pub record IsArrayPart (text : List ℕ) : Type 0 where
-  pub value : IsValueWithin part_depth text
-  pub array : IsSomeArray text
+  pub value : IsValue text
+  pub spans : List Span
+  pub nests : AreElements part_depth text spans
 
 -- the part is a JSON value, and not `null`, which counts as absent
 pub record IsShownPart (text : List ℕ) : Type 0 where
@@ -66,9 +68,9 @@ pub record HasRecordForms (content : RecordMsg) : Type 0 where
   pub emitted_at : content.emitted_at < 2 ^ 63
   pub meta : IsOptionalPart content.meta
 
--- the object is that of a state of this kind with this count
+-- The object is that of a state of this kind with this count; so it nests at most 124 deep.
 pub record HasStateForms (content : StateMsg) : Type 0 where
-  pub value : IsValueWithin state_depth content.object
+  pub value : IsValue content.object
   pub state : IsState content.object content
 
 pub record HasErrorForms (message : List ℕ) (emitted_at : Option (List ℕ)) : Type 0 where
@@ -81,7 +83,8 @@ pub record HasStatusForms (id : StreamId) (emitted_at : Option (List ℕ)) : Typ
 
 -- the object is that of a trace of another type
 pub record HasOtherForms (object : List ℕ) : Type 0 where
-  pub value : IsValueWithin payload_depth object
+  pub value : IsValue object
+  pub nests : NestsWithin payload_depth object
   pub trace : IsTrace object (trace.Other object)
 
 abbrev pub HasTraceForms : TraceMsg → Type 0
@@ -91,7 +94,8 @@ HasTraceForms (trace.Other object) = HasOtherForms object
 
 -- the object is that of a CONTROL line
 pub record HasControlForms (content : ControlMsg) : Type 0 where
-  pub value : IsValueWithin payload_depth content.object
+  pub value : IsValue content.object
+  pub nests : NestsWithin payload_depth content.object
   pub control : IsControl content.object content
 
 -- the message's parts have the forms of its line
