@@ -1,0 +1,10 @@
+//! Airbyte messages, written as lines.
+#![tactic(auto)]
+
+mod object;
+mod parts;
+mod payload;
+mod trace;
+mod write;
+
+pub use write::write_message;
