@@ -1,5 +1,6 @@
 // Messages of the kinds that carry no record and no state, and states of all kinds.
 use airbyte_message::{Message, StateKind, StateMsg, TraceMsg, read_message, same_state};
+use message_writer::write_message;
 use outside::NoMemory;
 use std::alloc::{AllocError, Global};
 use std::test::Fail;
@@ -179,6 +180,32 @@ fn states_are_the_same_up_to_white_space_and_counts(rt: HostRuntime) -> Result<(
             return Ok(());
         };
         assert_eq!(rt; same_state(alloc, &a, &b)?, want, "{blob} and {other}");
+    }
+    Ok(())
+}
+
+#[test]
+fn a_line_in_the_written_form_is_written_again(rt: HostRuntime) -> Result<(), Fail> {
+    let alloc = rt.alloc();
+    for line in [
+        r#"{"type":"RECORD","record":{"stream":"Zo\"","namespace":"n","data":{ "a":1.0},"emitted_at":7,"meta":[]}}"#,
+        r#"{"type":"STATE","state":{"type":"STREAM","stream":{"stream_descriptor":{"name":"a"}} }}"#,
+        r#"{"type":"LOG","log":{"level":"INFO","message":"hi"}}"#,
+        r#"{"type":"SPEC","spec":{"connectionSpecification":{}}}"#,
+        r#"{"type":"CONNECTION_STATUS","connectionStatus":{"status":"FAILED","message":"no"}}"#,
+        r#"{"type":"CATALOG","catalog":{"streams":[]}}"#,
+        r#"{"type":"TRACE","trace":{"type":"ERROR","emitted_at":1,"error":{"message":"m","failure_type":"config_error"}}}"#,
+        r#"{"type":"TRACE","trace":{"type":"STREAM_STATUS","stream_status":{"stream_descriptor":{"name":"a"},"status":"STARTED"}}}"#,
+        r#"{"type":"TRACE","trace":{"type":"ANALYTICS","x":1}}"#,
+        r#"{"type":"CONTROL","control":{"type":"CONNECTOR_CONFIG"}}"#,
+    ] {
+        match read_message(alloc, line.as_bytes())? {
+            Some(message) => {
+                let written = write_message(alloc, &message)?;
+                assert_eq!(rt; written.as_slice(), line.as_bytes(), "{line}");
+            }
+            None => assert!(rt; false, "no message: {line}"),
+        }
     }
     Ok(())
 }
