@@ -1,11 +1,9 @@
 -- A text is read to one end, and says one output: two readings of it agree.
-use Rattle.std.proofs.Common.{◌≡◌, ◌⊎◌, inl, inr, ℕ, ◌+◌, ◌<◌, ◌≤◌, List, [], ◌∷◌, ◌++◌, map, length, Option, None, Some, IfSome, refl, sym, ◌∙◌, ap, subst, arith, append_assoc}
-use Rattle.std.proofs.lemmas.List.{append-nil}
-use Rattle.outside.specs.Told.{told_more}
+use Rattle.std.proofs.Common.{◌≡◌, ◌⊎◌, inl, inr, ℕ, ◌+◌, ◌≤◌, List, [], ◌∷◌, ◌++◌, map, length, Option, None, Some, refl, sym, ◌∙◌, ap, subst, arith, append_assoc}
 use Rattle.outside.specs.declared.status.Status.{Status}
 use Rattle.outside.specs.declared.status.Status.TheVariants as status
 use Rattle.outside.specs.Desk.{Texts}
-use Rattle.json_fields.specs.Answer.{IsAnswer, IsOnly}
+use Rattle.json_fields.specs.Answer.{IsAnswer}
 use Rattle.text_lines.specs.Lines.{lines_of}
 use Rattle.airbyte_message.specs.Messages.{IsMessage}
 use Rattle.airbyte_message.specs.declared.message.Message.{Message}
@@ -13,10 +11,9 @@ use Rattle.airbyte_message.specs.declared.message.Message.TheVariants as message
 use Rattle.worker_run.specs.Catalog.{IsCatalog}
 use Rattle.worker_run.specs.Words.{TextNames}
 use Rattle.worker_run.specs.Rounds.{Heard, Round, record_round, state_round, other_round, round_line, round_found, heard_of, heard_in, Counted, none_counted, counted_after, counted_through, Fits, AreRounds, IsPassedOver, IsTaken, IsUnbuilt, longest_line}
-use Rattle.worker_run.specs.World.{World, begun}
-use Rattle.worker_run.specs.Output.{said_lines, end_lines, row_lines, attempt_lines, usage_line, status_line}
+use Rattle.worker_run.specs.Output.{said_lines, end_lines, row_lines, attempt_lines}
 use Rattle.worker_run.proofs.ReadingLemmas.{said_append}
-use Rattle.worker_run.specs.Reading.{EndsBehind, ReadsTo, IsAttempt, IsFront, StopsShort, HasTextNamed, RefusesCatalog, RunsAttempt, ComesTo, WouldSay, IsFrontOfBody, IsFrontOfAll, ReadsSome}
+use Rattle.worker_run.specs.Reading.{EndsBehind, IsAttempt, IsFront, ComesTo}
 
 -- a line has one answer
 answer_only : (line : List ℕ) (a b : Option Message) → IsAnswer (IsMessage line) a → IsAnswer (IsMessage line) b → a ≡ b

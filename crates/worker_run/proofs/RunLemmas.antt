@@ -1,21 +1,20 @@
 -- What an attempt and a run say, from what their parts said.
-use Rattle.std.proofs.Common.{◌≡◌, ◌⊎◌, inl, inr, ℕ, ◌+◌, List, [], ◌∷◌, ◌++◌, length, Bool, true, false, cond, Option, None, Some, IfSome, IsSome, refl, sym, ◌∙◌, ap, subst, append_assoc, zero-add}
+use Rattle.std.proofs.Common.{◌≡◌, ◌⊎◌, inl, inr, ℕ, ◌+◌, List, [], ◌∷◌, ◌++◌, length, Bool, true, false, cond, Option, None, Some, IsSome, refl, sym, ◌∙◌, ap, subst, append_assoc, zero-add}
 use Rattle.std.proofs.lemmas.List.{append-nil}
-use Rattle.outside.specs.Told.{told_more, GrewByFront, Rose}
+use Rattle.outside.specs.Told.{told_more, GrewByFront}
 use Rattle.outside.specs.declared.status.Status.{Status}
 use Rattle.outside.specs.declared.status.Status.TheVariants as status
 use Rattle.outside.specs.declared.fault.Fault.{Fault}
 use Rattle.outside.specs.declared.fault.Fault.TheVariants as fault
-use Rattle.outside.specs.declared.event.Event.{Event}
 use Rattle.outside.specs.Desk.{Texts, SaidOrNot}
 use Rattle.json_fields.specs.Answer.{IsOnly}
 use Rattle.worker_run.specs.Words.{TextNames}
 use Rattle.worker_run.specs.Catalog.{IsCatalog}
-use Rattle.worker_run.specs.Rounds.{Round, heard_in, Counted, none_counted, counted_through, AreRounds, IsUnbuilt}
-use Rattle.worker_run.specs.World.{World, begun, ended, first_events, rounds_events, last_events}
+use Rattle.worker_run.specs.Rounds.{Round, heard_in, Counted, none_counted, counted_through, IsUnbuilt}
+use Rattle.worker_run.specs.World.{World, begun, first_events, rounds_events, last_events}
 use Rattle.worker_run.specs.Output.{said_lines, row_lines, end_lines, attempt_lines, committed_lines, usage_line, status_line}
-use Rattle.worker_run.specs.Reading.{TakesLines, SaysLines, EndsAs, LeavesAs, Reads, ReadsSome, EndsBehind, ReadsTo, IsAttempt, Attempted, IsFront, StopsShort, HasTextNamed, RefusesCatalog, RunsAttempt, ComesTo, WouldSay, IsFrontOfBody, IsFrontOfAll, SaidBody, SaidPart, SaysBody, SaidAll, SaidFront, Says, IsReadFault, IsSayFault, StatusSaid, SaysLast, EndsAtFault, IsFault, IsUsageEnd, IsOnlyEnd, EndsWithStatus, NothingUnbuilt, IsOkOrNoMemory}
-use Rattle.worker_run.proofs.ReadingLemmas.{told_more-twice, told_more-none}
+use Rattle.worker_run.specs.Reading.{TakesLines, EndsAs, LeavesAs, Reads, ReadsSome, EndsBehind, IsAttempt, Attempted, IsFront, StopsShort, HasTextNamed, ComesTo, WouldSay, IsFrontOfBody, IsFrontOfAll, SaidBody, SaidPart, SaysBody, SaidAll, SaidFront, Says, IsReadFault, IsSayFault, StatusSaid, SaysLast, IsOnlyEnd, EndsWithStatus, NothingUnbuilt, IsOkOrNoMemory}
+use Rattle.worker_run.proofs.ReadingLemmas.{told_more-none}
 use Rattle.worker_run.proofs.OutputLemmas.{committed_append, committed_rounds}
 use Rattle.worker_run.proofs.SayLemmas.{said_both, front_second, front_line}
 use Rattle.worker_run.proofs.OneReading.{SameEnd, one_attempt, some_lines_front, one_outcome}

@@ -6,7 +6,7 @@ use Rattle.std.proofs.lemmas.List.Elements.{filter_map-append, Contains-append_l
 use Rattle.std.proofs.lemmas.List.Sums.{fold-append}
 use Rattle.std.proofs.lemmas.Grind.{flat_map-append}
 use Rattle.outside.specs.declared.event.Event.{Event}
-use Rattle.outside.specs.declared.event.Event.TheVariants.{Opened, Took, TookEnd, Committed, Emitted, Merged, Shown, Started, ReadLine, ReadEnd, Given, Closed, Got, GotEnd, Saved, Ended}
+use Rattle.outside.specs.declared.event.Event.TheVariants.{Opened, Took, TookEnd, Committed, Emitted, Started, ReadLine, ReadEnd, Given, Closed, Got, GotEnd, Saved, Ended}
 use Rattle.outside.specs.declared.event.Codes.{Codes}
 use Rattle.outside.specs.declared.event.RawRow.{RawRow}
 use Rattle.outside.specs.declared.event.AttemptPlan.{AttemptPlan}
@@ -20,11 +20,11 @@ use Rattle.airbyte_message.specs.declared.message.StateKind.TheVariants as kind
 use Rattle.airbyte_message.specs.declared.message.TraceMsg.{TraceMsg}
 use Rattle.airbyte_message.specs.declared.message.TraceMsg.TheVariants as trace
 use Rattle.worker_run.specs.Rounds.{Heard, Round, record_round, state_round, other_round, round_line, heard_of, Counted, none_counted, counted_after, counted_through, Fits, FitsState, AreRounds, KindIsOf, IsPassedTrace, IsPassedOver}
-use Rattle.worker_run.specs.Store.{store_text, states_text}
+use Rattle.worker_run.specs.Store.{store_text}
 use Rattle.worker_run.specs.World.{World, row_of, stream_plan, attempt_plan, first_events, round_events, rounds_events, last_events, record_events, state_events}
-use Rattle.worker_run.specs.EventParts.{read_line, given_line, got_line, saved_text, rows_of}
+use Rattle.worker_run.specs.EventParts.{read_line, given_line, got_line, rows_of}
 use Rattle.worker_run.specs.Reached.{IsReached, ending_events}
-use Rattle.worker_run.specs.SafeSync.{attempt_after, attempt, last_saved, heard_text, PassesKind, PassesTrace, Passes, ArePassed, GivesPassed, ReadState, states_behind, Echoes, Takes, Covers, StartsSafely, SavesNothing, SavesTaken, IsSafeSoFar, IsSafeSync}
+use Rattle.worker_run.specs.SafeSync.{attempt_after, attempt, heard_text, PassesKind, PassesTrace, Passes, ArePassed, GivesPassed, ReadState, states_behind, Takes, Covers, StartsSafely, SavesNothing, SavesTaken, IsSafeSoFar, IsSafeSync}
 use Rattle.worker_run.proofs.ReadingLemmas.{counted_through-more, AreRounds-more, rounds_events-more}
 
 -- lists that end in one element more

@@ -6,8 +6,8 @@ use Rattle.outside.specs.declared.event.Event.TheVariants.{ReadLine}
 use Rattle.airbyte_message.specs.declared.message.RecordMsg.{RecordMsg}
 use Rattle.airbyte_message.specs.declared.message.StateMsg.{StateMsg}
 use Rattle.worker_run.specs.Bounds.{IsBounded}
-use Rattle.worker_run.specs.Rounds.{record_round, state_round, FitsRecord, IsUnbuilt}
-use Rattle.worker_run.specs.World.{World, record_events, state_events}
+use Rattle.worker_run.specs.Rounds.{FitsRecord, IsUnbuilt}
+use Rattle.worker_run.specs.World.{World, record_events}
 use Rattle.worker_run.specs.Steps.{TakesRecord, TakesState, TakesOther, PassesOver, Refuses, IsFitState, AddsState}
 
 -- the world of these parts

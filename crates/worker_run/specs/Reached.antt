@@ -1,5 +1,5 @@
 -- Which worlds are reached by steps: lines were taken, one after another, since the world began.
-use Rattle.std.specs.Prelude.{◌≡◌, ℕ, List, [], ◌++◌, Bool, true, if◌then◌else◌}
+use Rattle.std.specs.Prelude.{◌≡◌, List, [], ◌++◌, Bool, true, if◌then◌else◌}
 use Rattle.outside.specs.declared.event.Event.{Event}
 use Rattle.worker_run.specs.Rounds.{Round, none_counted, counted_through, AreRounds}
 use Rattle.worker_run.specs.World.{World, first_events, rounds_events, last_events}

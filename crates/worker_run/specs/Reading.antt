@@ -10,7 +10,7 @@ use Rattle.json_fields.specs.Answer.{IsOnly}
 use Rattle.text_lines.specs.Lines.{lines_of}
 use Rattle.worker_run.specs.Words.{TextNames}
 use Rattle.worker_run.specs.Catalog.{IsCatalog}
-use Rattle.worker_run.specs.Rounds.{Round, round_line, heard_in, Counted, none_counted, counted_through, AreRounds, IsUnbuilt}
+use Rattle.worker_run.specs.Rounds.{Round, round_line, heard_in, none_counted, counted_through, AreRounds, IsUnbuilt}
 use Rattle.worker_run.specs.World.{World, ended, rounds_events}
 use Rattle.worker_run.specs.Output.{said_lines, attempt_lines, usage_line, status_line}
 

@@ -1,5 +1,5 @@
 -- The text of the state store with one stream, and the array of states that an attempt starts with.
-use Rattle.std.specs.Prelude.{ℕ, List, [], ◌++◌, Option, None, Some, codes}
+use Rattle.std.specs.Prelude.{ℕ, List, ◌++◌, Option, None, Some, codes}
 use Rattle.json.specs.Print.{quoted}
 
 -- the state object that is held, or null

@@ -1,5 +1,5 @@
 -- The plain world: one attempt of one process, as the list of its events.
-use Rattle.std.specs.Prelude.{◌≡◌, ℕ, ◌+◌, List, [], ◌∷◌, ◌++◌, Bool, true, false, if◌then◌else◌, Option, None, Some, codes}
+use Rattle.std.specs.Prelude.{ℕ, ◌+◌, List, [], ◌∷◌, ◌++◌, Bool, true, false, if◌then◌else◌, None, Some}
 use Rattle.text_lines.specs.Lines.{lines_of}
 use Rattle.outside.specs.declared.event.Event.{Event}
 use Rattle.outside.specs.declared.event.Event.TheVariants.{Opened, Took, TookEnd, Committed, Emitted, Started, ReadLine, ReadEnd, Given, Closed, Got, GotEnd, Saved, Ended}

@@ -1,4 +1,4 @@
-use Rattle.std.proofs.Common.{◌≡◌, ◌∙◌, ℕ, List, Option, Some, IfSome, subst}
+use Rattle.std.proofs.Common.{◌∙◌, ℕ, List, Option, subst}
 use Rattle.outside.specs.Desk.{Texts}
 use Rattle.json_fields.specs.Answer.{IsAnswer, IsOnly}
 use Rattle.worker_run.specs.Words.{TextNames}

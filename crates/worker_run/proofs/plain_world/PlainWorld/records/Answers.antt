@@ -1,4 +1,4 @@
-use Rattle.std.proofs.Common.{◌≡◌, ◌∙◌, length, subst, ap}
+use Rattle.std.proofs.Common.{◌∙◌, length, ap}
 use Rattle.worker_run.specs.World.{World}
 use Rattle.worker_run.specs.Output.{committed_lines}
 use Rattle.worker_run.proofs.StepLemmas.{world_of}
