@@ -51,13 +51,18 @@ array_value (json.string ps) e = absurd (omega (arith, e))
 array_value (json.empty_object ss) e = absurd (omega (arith, e))
 array_value (json.object before key behind ahead v after members) e = absurd (omega (arith, e))
 
-pub object_within : (limit : ℕ) (text : List ℕ) (members : List Member) → IsValue text → AreMembers limit text members → IsValueWithin limit text
-object_within limit text members h o =
+-- each object that the text is nests as deep as the value does
+pub object_deep : (text : List ℕ) (deep : ℕ) (members : List Member) (h : IsValue text) → IsObject text deep members → depth h.value ≡ deep
+object_deep text deep members h o =
     let v = h.value in
-    let first = (first_tells text h).1 (record { deep = o.deep; members = members; object = o.object }) in
+    let first = (first_tells text h).1 (record { deep = deep; members = members; object = o }) in
     let is = object_value v (ap (λ (t : List ℕ). get_or t 0 0) (sym h.spelled) ∙ first) in
     let own : IsObject text (depth v) (members_of 0 v) = record { before = []; value = v; after = []; spells = record { utf8 = h.utf8; object = is; spelled = h.spelled ∙ sym (append-nil (value_text v)) }; deepest = refl; places = refl } in
-    let same : depth v ≡ o.deep = sym (sound text (depth v) (members_of 0 v) own).deepest ∙ (sound text o.deep members o.object).deepest in
+    sym (sound text (depth v) (members_of 0 v) own).deepest ∙ (sound text deep members o).deepest
+
+pub object_within : (limit : ℕ) (text : List ℕ) (members : List Member) → IsValue text → AreMembers limit text members → IsValueWithin limit text
+object_within limit text members h o =
+    let same = object_deep text o.deep members h o.object in
     record { is = h; within = (let within = o.within in omega arith) }
 
 is_done : (p : Phase) → IsDone p ⊎ (IsDone p → ⊥)
@@ -80,11 +85,16 @@ array_deep text deep spans o = go (is_done m.phase)
           | inr high ↦ omega arith
         ]
 
-pub array_within : (limit : ℕ) (text : List ℕ) (spans : List Span) → IsValue text → AreElements limit text spans → IsValueWithin limit text
-array_within limit text spans h o =
+-- each array that the text is nests as deep as the value does
+pub array_value_deep : (text : List ℕ) (deep : ℕ) (spans : List Span) (h : IsValue text) → IsArray text deep spans → depth h.value ≡ deep
+array_value_deep text deep spans h o =
     let v = h.value in
-    let first = (first_tells_array text h).1 (record { deep = o.deep; spans = spans; array = o.array }) in
+    let first = (first_tells_array text h).1 (record { deep = deep; spans = spans; array = o }) in
     let is = array_value v (ap (λ (t : List ℕ). get_or t 0 0) (sym h.spelled) ∙ first) in
     let own : IsArray text (depth v) (elements_of 0 v) = record { before = []; value = v; after = []; spells = record { utf8 = h.utf8; array = is; spelled = h.spelled ∙ sym (append-nil (value_text v)) }; deepest = refl; places = refl } in
-    let same : depth v ≡ o.deep = array_deep text (depth v) (elements_of 0 v) own ∙ sym (array_deep text o.deep spans o.array) in
+    array_deep text (depth v) (elements_of 0 v) own ∙ sym (array_deep text deep spans o)
+
+pub array_within : (limit : ℕ) (text : List ℕ) (spans : List Span) → IsValue text → AreElements limit text spans → IsValueWithin limit text
+array_within limit text spans h o =
+    let same = array_value_deep text o.deep spans h o.array in
     record { is = h; within = (let within = o.within in omega arith) }

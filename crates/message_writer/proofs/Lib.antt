@@ -1,5 +1,8 @@
 pub mod Depths
 pub mod Fields
+pub mod FormLemmas
+pub mod HeldValues
+pub mod Meanings
 pub mod Numerals
 pub mod Payloads
 pub mod Sounds

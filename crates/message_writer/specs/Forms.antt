@@ -10,7 +10,7 @@ use Rattle.outside.specs.declared.event.StreamId.{StreamId}
 use Rattle.airbyte_message.specs.Parts.{IsOptionalNumber, NestsWithin}
 use Rattle.airbyte_message.specs.States.{IsState}
 use Rattle.airbyte_message.specs.Traces.{IsTrace}
-use Rattle.airbyte_message.specs.Messages.{IsControl}
+use Rattle.airbyte_message.specs.Messages.{IsControl, IsMessage}
 use Rattle.airbyte_message.specs.declared.message.Message.{Message}
 use Rattle.airbyte_message.specs.declared.message.Message.TheVariants as message
 use Rattle.airbyte_message.specs.declared.message.RecordMsg.{RecordMsg}
@@ -108,3 +108,7 @@ HasForms (message.Connection content) = IsOptionalUtf8 content.text
 HasForms (message.Catalog content) = IsArrayPart content.streams
 HasForms (message.Trace content) = HasTraceForms content
 HasForms (message.Control content) = HasControlForms content
+
+-- Every message that a line is has these forms.
+abbrev pub ReadHasForms : Type 0
+ReadHasForms = (line : List ℕ) (content : Message) → IsMessage line content → HasForms content

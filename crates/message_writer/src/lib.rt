@@ -7,4 +7,4 @@ mod payload;
 mod trace;
 mod write;
 
-pub use write::write_message;
+pub use write::{read_has_forms, write_message};

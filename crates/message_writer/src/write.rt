@@ -2,7 +2,7 @@
 ghost use Rattle.std.specs.Prelude.{◌≡◌, ◌++◌, IfOk, OnOk};
 ghost use Rattle.airbyte_message.specs.Words.{payload_text, type_text};
 ghost use Rattle.airbyte_message.specs.Messages.{IsMessage};
-ghost use Rattle.message_writer.specs.Forms.{HasForms};
+ghost use Rattle.message_writer.specs.Forms.{HasForms, ReadHasForms};
 ghost use Rattle.message_writer.specs.Written.{payload_of, type_of, written};
 
 use crate::object::{put_name, put_text};
@@ -82,3 +82,8 @@ pub fn write_message(alloc: Global, message: &Message) -> Result<Bytes, NoMemory
     line.push(b'}')?;
     Ok(Bytes::from_vec(line))
 }
+
+/// A law: every message that a line is has the forms, so that its own line is read as it.
+pub fn read_has_forms()
+    ensures { ReadHasForms }
+{}
