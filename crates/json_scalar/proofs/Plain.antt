@@ -1,5 +1,6 @@
 -- Strings without escapes, and texts that cannot be strings.
-use Rattle.std.proofs.Common.{◌≡◌, ◌≢◌, ℕ, Bool, true, false, cond, not, List, [], ◌∷◌, ◌++◌, flat_map, Option, Some, None, IsTrue, IsUtf8, refl, sym, ap, ◌∙◌, arith}
+use Rattle.std.proofs.Common.{◌≡◌, ◌≢◌, ℕ, Bool, true, false, cond, not, List, [], ◌∷◌, ◌++◌, flat_map, Option, Some, None, IsTrue, IsUtf8, refl, sym, ap, ◌∙◌, arith, ◌≤◌, length, nat_eq, slice_index_or, eq-eqb}
+use Rattle.std.proofs.lemmas.Bool.{true≢false}
 use Rattle.std.proofs.lemmas.List.Elements.{All-cons, All-tail}
 use Rattle.std.specs.List.{find, All}
 use Rattle.json_scalar.specs.Text.{Piece, IsString, IsNoString, is_plain, piece_text, piece_meaning, string_text}
@@ -55,3 +56,23 @@ no_string text inside b spelled f other = λ meaning s.
     let same : string_text s.pieces ≡ in_quotes inside = sym s.spelled ∙ spelled in
     let tails : flat_map piece_text s.pieces ++ 34 ∷ [] ≡ inside ++ 34 ∷ [] = cc in
     no_pieces s.pieces inside b f other tails
+
+-- the byte behind the quotation mark is a backslash, or the first of what the string stands for
+pub first_byte : (rest others : List ℕ) (quotation byte first : ℕ) → byte ≢ first → byte ≢ 92 → IsString (quotation ∷ byte ∷ rest) (first ∷ others) → ⊥
+first_byte rest others quotation byte first unlike plain s = among s.pieces s.spelled s.means
+  where
+    among : (ps : List Piece) → quotation ∷ byte ∷ rest ≡ string_text ps → first ∷ others ≡ flat_map piece_meaning ps → ⊥
+    among [] spelled means = cc
+    among (Piece.plain y is ∷ ps) spelled means = unlike (let a : byte ≡ y = cc in let b : first ≡ y = cc in a ∙ sym b)
+    among (Piece.escape k ∷ ps) spelled means = plain (cc)
+    among (Piece.unit a c d g is ∷ ps) spelled means = plain (cc)
+    among (Piece.pair a c d g high h i j k low ∷ ps) spelled means = plain (cc)
+
+unlike_bytes : (a b : ℕ) → nat_eq a b ≡ false → a ≢ b
+unlike_bytes a b test same = true≢false (sym (eq-eqb a b same) ∙ test)
+
+pub no_name_at : (text name : List ℕ) → 2 ≤ length text → 1 ≤ length name → slice_index_or text 1 0 ≢ slice_index_or name 0 0 → nat_eq (slice_index_or text 1 0) 92 ≡ false → IsString text name → ⊥
+no_name_at [] name long some unlike plain s = absurd (omega arith)
+no_name_at (q ∷ []) name long some unlike plain s = absurd (omega arith)
+no_name_at (q ∷ b ∷ rest) [] long some unlike plain s = absurd (omega arith)
+no_name_at (q ∷ b ∷ rest) (first ∷ others) long some unlike plain s = first_byte rest others q b first unlike (unlike_bytes b 92 plain) s

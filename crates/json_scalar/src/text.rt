@@ -1,5 +1,5 @@
 // Strings: what one stands for, and how one is written.
-ghost use Rattle.std.specs.Prelude.{◌≡◌, ◌≢◌, ◌↔◌, ℕ, List, IfOk, IfSome, IfNone, IsTrue, MatchOption, not};
+ghost use Rattle.std.specs.Prelude.{◌≡◌, ◌≢◌, ◌↔◌, ℕ, List, IfOk, IfSome, IfNone, IsTrue, MatchOption, false, not};
 ghost use Rattle.std.specs.List.{find};
 ghost use Rattle.json.specs.Print.{quoted};
 ghost use Rattle.json_scalar.specs.Text.{IsString, IsNoString, is_plain as plain_test};
@@ -24,10 +24,28 @@ pub fn text_of(alloc: Global, text: &[u8]) -> Result<Option<Name>, NoMemory>
     }
 }
 
+// Whether a text may be a string of this name, by the byte behind its quotation mark. Most keys that have another name
+// are known by it.
+#[inline(always)]
+fn may_be(text: &[u8], name: &[u8]) -> bool
+    ensures { result ≡ false → ¬ IsString text.now name.now }
+{
+    match text {
+        [_, byte, ..] => match name {
+            [first, ..] => *byte == *first || *byte == b'\\',
+            [] => true,
+        },
+        _ => true,
+    }
+}
+
 /// Whether the text is a JSON string that stands for this name. A string without escapes is compared in place.
 pub fn is_string_of(alloc: Global, text: &[u8], name: &str) -> Result<bool, NoMemory>
     ensures { IfOk result (λ is. IsTrue is ↔ IsString text.now name.now) }
 {
+    if !may_be(text, name.as_bytes()) {
+        return Ok(false);
+    }
     match form_of(text) {
         Form::NoString => Ok(false),
         Form::Plain(inside) => Ok(inside == name),
