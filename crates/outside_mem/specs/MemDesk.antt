@@ -1,5 +1,5 @@
 -- A desk in memory: what it holds, and when its calls fail.
-use Rattle.std.specs.Prelude.{◌≡◌, ℕ, ◌+◌, ◌-◌, ◌^◌, min, List, [], ◌∷◌, Option, None, Some, if◌then◌else◌}
+use Rattle.std.specs.Prelude.{◌≡◌, ◌⊎◌, ℕ, ◌+◌, ◌-◌, ◌^◌, min, List, [], ◌∷◌, Contains, Option, None, Some, if◌then◌else◌}
 use Rattle.std.specs.Str.{bytes_eq}
 use Rattle.outside_mem.specs.declared.mem_desk.NamedText.{NamedText}
 
@@ -24,3 +24,12 @@ begun texts fails = record { texts = texts; fails = fails; said = []; calls = 0;
 -- the number of the next call; the count stands still at its type's end
 abbrev pub call_after : ℕ → ℕ
 call_after calls = min (calls + 1) (2 ^ 64 - 1)
+
+-- the next call gives the text of this name
+pub record ReadsText (desk : DeskState) (name text : List ℕ) : Type 0 where
+  pub is : text_named desk.texts name ≡ Some text
+  pub passes : ¬ Contains desk.fails (call_after desk.calls)
+
+-- the next call is to fail, or no text has this name
+abbrev pub FailsToRead : DeskState → List ℕ → Type 0
+FailsToRead desk name = Contains desk.fails (call_after desk.calls) ⊎ (text_named desk.texts name ≡ None)

@@ -86,7 +86,9 @@ impl MemDesk {
 }
 
 impl Desk for MemDesk {
-    ghost use Rattle.outside_mem.specs.MemDesk.{text_named};
+    ghost use Rattle.std.specs.Prelude.{Contains, IfOk, OnOk, OnErr, IsErrOf, ◌++◌, ◌∷◌, []};
+    ghost use Rattle.outside.specs.Told.{RoseIf};
+    ghost use Rattle.outside_mem.specs.MemDesk.{text_named, call_after, ReadsText, FailsToRead};
 
     ghost texts = { λ desk. Some (λ name. text_named desk.texts name) };
 
@@ -96,7 +98,13 @@ impl Desk for MemDesk {
 
     ghost say_faults = { λ desk. desk.say_faults };
 
-    fn read_text(&mut self, alloc: Global, name: &str) -> Result<Bytes, Fault> {
+    // `Failed` comes exactly where the call is to fail, or no text has the name.
+    fn read_text(&mut self, alloc: Global, name: &str) -> Result<Bytes, Fault>
+        ensures read { IfOk result (ReadsText self.old name.now) }
+        ensures failed { IsErrOf result Fault.Failed → FailsToRead self.old name.now }
+        ensures faults { RoseIf (IsErrOf result Fault.Failed) self.old.read_faults self.new.read_faults }
+        ensures others { self.new ≡ record (self.old) { calls = call_after self.old.calls; read_faults = self.new.read_faults } }
+    {
         let is_failing = self.is_failing();
         match find(self.texts.as_slice(), name) {
             Some(text) if !is_failing => Ok(Bytes::copy_of(alloc, text.as_slice())?),
@@ -107,7 +115,15 @@ impl Desk for MemDesk {
         }
     }
 
-    fn say(&mut self, line: &[u8]) -> Result<(), Fault> {
+    // `Failed` comes exactly where the call is to fail, and then nothing was said.
+    fn say(&mut self, line: &[u8]) -> Result<(), Fault>
+        ensures ok { OnOk result (self.new.said ≡ self.old.said ++ line.now ∷ []) }
+        ensures said { OnOk result (¬ Contains self.old.fails (call_after self.old.calls)) }
+        ensures unsaid { OnErr result (self.new.said ≡ self.old.said) }
+        ensures failed { IsErrOf result Fault.Failed → Contains self.old.fails (call_after self.old.calls) }
+        ensures faults { RoseIf (IsErrOf result Fault.Failed) self.old.say_faults self.new.say_faults }
+        ensures others { self.new ≡ record (self.old) { calls = call_after self.old.calls; said = self.new.said; say_faults = self.new.say_faults } }
+    {
         if self.is_failing() {
             self.say_faults = self.say_faults.saturating_add(1);
             return Err(Fault::Failed);
