@@ -1,14 +1,14 @@
 #!/usr/bin/env bash
-# Builds the worker, and runs the checks over it: a file of real messages where that is at hand, and random JSON texts
-# where python3 is. Each check that cannot run says so and is passed over.
+# Runs the checks over the worker that the gate has built, or builds it: a file of real messages where that is at hand, and
+# random JSON texts where python3 is. Each check that cannot run says so and is passed over.
 set -u
 cd "$(dirname "${BASH_SOURCE[0]}")/.." || exit 2
 
-if ! (cd crates/airbyte_worker && rt run -- local --messages data/messages.jsonl --catalog data/catalog.json) >/dev/null 2>&1; then
+worker=crates/airbyte_worker/out/airbyte_worker
+if [ ! -x "$worker" ] && ! (cd crates/airbyte_worker && rt run -- local --messages data/messages.jsonl --catalog data/catalog.json) >/dev/null 2>&1; then
     echo "checks: the worker was not built"
     exit 1
 fi
-worker=crates/airbyte_worker/out/airbyte_worker
 failed=0
 checks/zones.sh "$worker" ../shared/data || failed=1
 if command -v python3 >/dev/null 2>&1; then

@@ -7,68 +7,71 @@ use std::test::Fail;
 fn lines_of_the_source_are_said_and_passed_over(rt: HostRuntime) -> Result<(), Fail> {
     let alloc = rt.alloc();
     let words = local_words(alloc)?;
-    let cases: [(&str, &[&str]); 12] = [
+    let cases = [
         (
             "Picked up JAVA_TOOL_OPTIONS: -Xmx1g",
-            &["source: Picked up JAVA_TOOL_OPTIONS: -Xmx1g"],
+            "source: Picked up JAVA_TOOL_OPTIONS: -Xmx1g",
         ),
         (
             r#"{"type":"STATE","state":{"type":"STREAM","stream":{"stream_descriptor":{"name":"a"},"stream_state":{}},"sourceStats":{"recordCount":1.5}}}"#,
-            &[
-                r#"source: {"type":"STATE","state":{"type":"STREAM","stream":{"stream_descriptor":{"name":"a"},"stream_state":{}},"sourceStats":{"recordCount":1.5}}}"#,
-            ],
+            r#"source: {"type":"STATE","state":{"type":"STREAM","stream":{"stream_descriptor":{"name":"a"},"stream_state":{}},"sourceStats":{"recordCount":1.5}}}"#,
         ),
         (
             r#"{"type":"LOG","log":{"level":"INFO","message":"hi"}}"#,
-            &["source [INFO] hi"],
+            "source [INFO] hi",
         ),
         (
             r#"{"type":"LOG","log":{"level":"FATAL","message":"a\u0001b\nc"}}"#,
-            &["source [FATAL] a b c"],
+            "source [FATAL] a b c",
         ),
         (
             r#"{"type":"LOG","log":{"level":"info","message":"hi"}}"#,
-            &[r#"source: {"type":"LOG","log":{"level":"info","message":"hi"}}"#],
+            r#"source: {"type":"LOG","log":{"level":"info","message":"hi"}}"#,
         ),
         (
             r#"{"type":"TRACE","trace":{"type":"ERROR","emitted_at":1,"error":{"message":"no disk"}}}"#,
-            &["source error system_error no disk"],
+            "source error system_error no disk",
         ),
         (
             r#"{"type":"TRACE","trace":{"type":"ERROR","error":{"message":"try\tagain","failure_type":"transient_error"}}}"#,
-            &["source error transient_error try again"],
-        ),
-        (
-            r#"{"type":"TRACE","trace":{"type":"ESTIMATE","emitted_at":1,"estimate":{}}}"#,
-            &[],
-        ),
-        (
-            r#"{"type":"SPEC","spec":{"connectionSpecification":{}}}"#,
-            &[],
-        ),
-        (
-            r#"{"type":"CONNECTION_STATUS","connectionStatus":{"status":"SUCCEEDED"}}"#,
-            &[],
-        ),
-        (r#"{"type":"CATALOG","catalog":{"streams":[]}}"#, &[]),
-        (
-            r#"{"type":"CONTROL","control":{"type":"CONNECTOR_CONFIG"}}"#,
-            &[],
+            "source error transient_error try again",
         ),
     ];
     for (line, said) in cases {
         let mut desk = desk_of(alloc, line.as_bytes(), CATALOG.as_bytes(), 0)?;
         let answer = worker_run::run(alloc, &mut desk, &mut NoLink::new(), &words);
         assert_eq!(rt; answer, Status::Ok, "{line}");
-        let lines = desk.said().as_slice();
-        assert_eq!(rt; lines.len(), said.len() + 3, "{line}");
-        for (index, text) in said.iter().enumerate() {
-            assert_eq!(rt;
-                lines.get(index).map(|bytes| bytes.as_slice()),
-                Some(text.as_bytes()),
-                "{line}"
-            );
-        }
+        assert_said(
+            &rt,
+            &desk,
+            &[said, "attempt 1: 0 Ok", "table a rows 0", "status 0 Ok"],
+            line,
+        );
+    }
+    Ok(())
+}
+
+#[test]
+fn other_messages_are_passed_over_in_silence(rt: HostRuntime) -> Result<(), Fail> {
+    let alloc = rt.alloc();
+    let words = local_words(alloc)?;
+    let cases = [
+        r#"{"type":"TRACE","trace":{"type":"ESTIMATE","emitted_at":1,"estimate":{}}}"#,
+        r#"{"type":"SPEC","spec":{"connectionSpecification":{}}}"#,
+        r#"{"type":"CONNECTION_STATUS","connectionStatus":{"status":"SUCCEEDED"}}"#,
+        r#"{"type":"CATALOG","catalog":{"streams":[]}}"#,
+        r#"{"type":"CONTROL","control":{"type":"CONNECTOR_CONFIG"}}"#,
+    ];
+    for line in cases {
+        let mut desk = desk_of(alloc, line.as_bytes(), CATALOG.as_bytes(), 0)?;
+        let answer = worker_run::run(alloc, &mut desk, &mut NoLink::new(), &words);
+        assert_eq!(rt; answer, Status::Ok, "{line}");
+        assert_said(
+            &rt,
+            &desk,
+            &["attempt 1: 0 Ok", "table a rows 0", "status 0 Ok"],
+            line,
+        );
     }
     Ok(())
 }
