@@ -9,9 +9,9 @@ fn echo_of_line(alloc: Global, line: &str, count: u64) -> Result<Option<Bytes>, 
     let Some(Message::State(state)) = read_message(alloc, line.as_bytes())? else {
         return Ok(None);
     };
-    match state.kind {
-        StateKind::Legacy => Ok(None),
-        _ => Ok(Some(echo_of(alloc, &state, count)?)),
+    match &state.kind {
+        StateKind::Stream { .. } => Ok(Some(echo_of(alloc, &state, count)?)),
+        _ => Ok(None),
     }
 }
 
