@@ -8,7 +8,7 @@ use Rattle.json_span.specs.Grammar.{Value, value_text}
 use Rattle.json_span.specs.Members.{AreMembers, IsSomeObject, IsMemberOf, IsValue, text_at}
 use Rattle.json_span.specs.Elements.{IsSomeArray}
 use Rattle.json_span.specs.declared.Member.{Member}
-use Rattle.outside.specs.declared.event.StreamId.{StreamId}
+use Rattle.basics.specs.declared.stream.StreamId.{StreamId}
 use Rattle.json_fields.specs.Answer.{IsAnswer, IsOnly}
 use Rattle.json_fields.specs.Fields.{HasField, HasOptional, HasText, HasOptionalText, Holds, HoldsBefore, IsCut, present, line_depth}
 use Rattle.airbyte_message.specs.Parts.{IsCount, HasCount, HasObject, HasArray, IsNumber, IsOptionalNumber, HasOptionalNumber, IsStreamId, HasDescriptor}

@@ -5,7 +5,7 @@ use Rattle.json_span.specs.Members.{AreMembers, text_at}
 use Rattle.json_span.specs.Elements.{AreElements}
 use Rattle.json_span.specs.declared.Member.{Member}
 use Rattle.json_span.specs.declared.Span.{Span}
-use Rattle.outside.specs.declared.event.StreamId.{StreamId}
+use Rattle.basics.specs.declared.stream.StreamId.{StreamId}
 use Rattle.json_fields.specs.Answer.{IsAnswer, IsOnly}
 use Rattle.json_fields.specs.Fields.{HasField, HasOptional, HasOptionalText, line_depth}
 use Rattle.airbyte_message.specs.Parts.{IsCount, HasDescriptor, IsCutList}

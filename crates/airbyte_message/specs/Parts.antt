@@ -5,7 +5,7 @@ use Rattle.json_span.specs.Members.{AreMembers, IsSomeObject}
 use Rattle.json_span.specs.Elements.{AreElements, IsElementOf, IsSomeArray}
 use Rattle.json_span.specs.declared.Span.{Span}
 use Rattle.json_span.specs.declared.Member.{Member}
-use Rattle.outside.specs.declared.event.StreamId.{StreamId}
+use Rattle.basics.specs.declared.stream.StreamId.{StreamId}
 use Rattle.json_fields.specs.Fields.{HasField, HasOptional, HasText, HasOptionalText, line_depth}
 
 -- a whole number below 2^63

@@ -1,7 +1,7 @@
 -- Which states are the same: how a state that a destination sends back is known again. White space outside strings
 -- does not count, an absent blob counts as `null`, and record counts are not compared.
 use Rattle.std.specs.Prelude.{◌≡◌, ◌≢◌, ℕ, List, Option, None, Some, map, codes}
-use Rattle.outside.specs.declared.event.StreamId.{StreamId}
+use Rattle.basics.specs.declared.stream.StreamId.{StreamId}
 use Rattle.json_squeeze.specs.Squeeze.{squeezed}
 use Rattle.airbyte_message.specs.declared.message.StateMsg.{StateMsg}
 use Rattle.airbyte_message.specs.declared.message.StateKind.{StateKind}

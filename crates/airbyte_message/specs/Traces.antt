@@ -1,7 +1,7 @@
 -- The `trace` of a TRACE line (Airbyte Protocol, version 0: AirbyteTraceMessage).
 use Rattle.std.specs.Prelude.{◌≡◌, ℕ, List, Option, option_map, codes}
 use Rattle.json_fields.specs.Fields.{HasField, HasText, HasOptionalText}
-use Rattle.outside.specs.declared.event.StreamId.{StreamId}
+use Rattle.basics.specs.declared.stream.StreamId.{StreamId}
 use Rattle.airbyte_message.specs.Parts.{HasOptionalNumber, HasDescriptor}
 use Rattle.airbyte_message.specs.Words.{trace_text, failure_text, status_text}
 use Rattle.airbyte_message.specs.declared.failure_type.FailureType.{FailureType}

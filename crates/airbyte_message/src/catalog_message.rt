@@ -7,7 +7,7 @@ use crate::CatalogMsg;
 use crate::parts::array_field;
 use json_fields::cut;
 use json_span::MAX_DEPTH;
-use outside::{Bytes, NoMemory};
+use basics::{Bytes, NoMemory};
 use std::alloc::Global;
 
 /// The catalog that a payload is.

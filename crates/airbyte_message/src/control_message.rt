@@ -6,7 +6,7 @@ ghost use Rattle.airbyte_message.specs.Messages.{IsControl};
 use crate::ControlMsg;
 use json_fields::{cut, text_field};
 use json_span::MAX_DEPTH;
-use outside::{Bytes, NoMemory};
+use basics::{Bytes, NoMemory};
 use std::alloc::Global;
 
 /// The control message that a payload is.

@@ -9,7 +9,7 @@ ghost use Rattle.airbyte_message.specs.States.{state_depth};
 use crate::StateMsg;
 use json_fields::cut;
 use json_span::{MAX_DEPTH, Member, is_string_of};
-use outside::{Bytes, NoMemory};
+use basics::{Bytes, NoMemory};
 use std::alloc::Global;
 
 // The bytes of an echo around the members of its state, at most.

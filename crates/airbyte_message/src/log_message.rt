@@ -8,7 +8,7 @@ ghost use Rattle.airbyte_message.specs.Words.{level_text};
 use crate::{Level, LogMsg};
 use json_fields::{cut, text_field};
 use json_span::{MAX_DEPTH, MemberList};
-use outside::NoMemory;
+use basics::NoMemory;
 use std::alloc::Global;
 
 // The member `level`.

@@ -1,6 +1,6 @@
 // The messages of the protocol.
 use crate::{FailureType, Level, StreamStatus};
-use outside::{Bytes, Name, Sequence, StreamId};
+use basics::{Bytes, Name, Sequence, StreamId};
 
 /// The text of a JSON value, as it stood in its line.
 pub type Raw = Bytes;

@@ -8,7 +8,7 @@ ghost use Rattle.airbyte_message.specs.Parts.{HasArray, HasCount, HasDescriptor,
 
 use json_fields::{cut, field, optional, optional_text, text_field};
 use json_span::{MAX_DEPTH, MemberList, is_array, is_object, whole_of};
-use outside::{Bytes, NoMemory, StreamId};
+use basics::{Bytes, NoMemory, StreamId};
 use std::alloc::Global;
 
 /// A stream's name, in the member `name_member`, and perhaps its namespace.

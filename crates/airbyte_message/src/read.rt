@@ -16,7 +16,7 @@ use crate::state_message::state_of;
 use crate::trace_message::trace_of;
 use json_fields::{cut, field, text_field};
 use json_span::{MAX_DEPTH, MemberList};
-use outside::NoMemory;
+use basics::NoMemory;
 use std::alloc::Global;
 
 /// What a line is of.

@@ -7,7 +7,7 @@ use crate::RecordMsg;
 use crate::parts::{copied, count_field, object_field, stream_id_of};
 use json_fields::{cut, optional};
 use json_span::MAX_DEPTH;
-use outside::{Bytes, NoMemory};
+use basics::{Bytes, NoMemory};
 use std::alloc::Global;
 
 /// The record that a payload is.

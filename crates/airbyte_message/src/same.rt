@@ -4,7 +4,7 @@ ghost use Rattle.airbyte_message.specs.Same.{IsSameKind, Same, SameLaws, blob_fo
 
 use crate::{Raw, StateKind, StateMsg, StreamBlob, StreamBlobList};
 use json_squeeze::squeeze;
-use outside::{Bytes, Name, NoMemory, StreamId};
+use basics::{Bytes, Name, NoMemory, StreamId};
 use std::alloc::Global;
 
 // Whether two namespaces are equal, or both absent.

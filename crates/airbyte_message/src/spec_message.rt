@@ -7,7 +7,7 @@ use crate::SpecMsg;
 use crate::parts::object_field;
 use json_fields::cut;
 use json_span::MAX_DEPTH;
-use outside::{Bytes, NoMemory};
+use basics::{Bytes, NoMemory};
 use std::alloc::Global;
 
 /// The specification that a payload is.

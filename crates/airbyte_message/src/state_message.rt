@@ -8,7 +8,7 @@ use crate::stream_blob::{global_of, stream_of};
 use crate::{StateKind, StateMsg, StreamBlob};
 use json_fields::{cut, optional, optional_text};
 use json_span::{MAX_DEPTH, MemberList, whole_of};
-use outside::{Bytes, Name, NoMemory};
+use basics::{Bytes, Name, NoMemory};
 use std::alloc::Global;
 
 // A state nests at most so deep, so that the state store can hold it.

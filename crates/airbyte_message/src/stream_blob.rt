@@ -12,7 +12,7 @@ use crate::state_message::StateType;
 use crate::{StateKind, StreamBlob, StreamBlobList};
 use json_fields::{cut, field, optional};
 use json_span::{MAX_DEPTH, MemberList, Span, SpanFault, SpanList, elements};
-use outside::NoMemory;
+use basics::NoMemory;
 use std::alloc::Global;
 
 // A stream and its blob.

@@ -10,7 +10,7 @@ use crate::parts::{copied, descriptor_of, optional_number};
 use crate::{FailureType, StreamStatus, TraceMsg};
 use json_fields::{cut, field, optional_text, text_field};
 use json_span::{MAX_DEPTH, MemberList};
-use outside::{Bytes, NoMemory};
+use basics::{Bytes, NoMemory};
 use std::alloc::Global;
 
 /// What a trace is of.

@@ -3,7 +3,7 @@ use Rattle.std.proofs.Common.{◌≡◌, ◌≤◌, ◌⊎◌, inl, inr, ℕ, Li
 use Rattle.std.proofs.lemmas.List.{take_more}
 use Rattle.std.specs.Str.{bytes_eq}
 use Rattle.json_scalar.specs.Text.{IsString, IsNoString}
-use Rattle.outside.specs.declared.memory.NoMemory.{NoMemory}
+use Rattle.basics.specs.declared.memory.NoMemory.{NoMemory}
 use Rattle.json_span.specs.Members.{AreMembers, IsMemberOf, HasOnlyMembers, text_at}
 use Rattle.json_span.specs.declared.Member.{Member}
 use Rattle.json_fields.specs.Answer.{IsAnswer, IsOnly}

@@ -6,7 +6,7 @@ ghost use Rattle.json_scalar.specs.Text.{IsString, IsNoString, is_plain as plain
 ghost use Rattle.json_scalar.specs.Form.{IsFormOf};
 ghost use Rattle.json_scalar.specs.Quotes.{in_quotes, IsQuoted};
 
-use outside::{Bytes, Name, NoMemory};
+use basics::{Bytes, Name, NoMemory};
 use serde_json::Value;
 use std::alloc::Global;
 

@@ -7,7 +7,7 @@ use crate::machine::Machine;
 use crate::phase::{Frame, is_done, run_at};
 use crate::skip::skip;
 use crate::{MAX_DEPTH, MemberList, SpanFault};
-use outside::NoMemory;
+use basics::NoMemory;
 use std::alloc::Global;
 
 /// What the machine makes of the whole text, where it wants an array or an object.

@@ -2,7 +2,7 @@
 use crate::frames::Frames;
 use crate::phase::Frame;
 use crate::{Member, MemberList, Span, SpanList};
-use outside::{NoMemory, Sequence};
+use basics::{NoMemory, Sequence};
 
 /// The members or the elements so far, and the places of the next.
 #[derive(Drop)]

@@ -1,6 +1,6 @@
 // The arrays and objects that are open, the innermost first.
 use crate::phase::Frame;
-use outside::NoMemory;
+use basics::NoMemory;
 use std::alloc::Global;
 use std::marker::Model;
 

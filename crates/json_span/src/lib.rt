@@ -2,7 +2,7 @@
 #![tactic(auto)]
 
 pub use json_scalar::{is_string_of, quote, text_of, whole_of};
-use outside::{NoMemory, Sequence};
+use basics::{NoMemory, Sequence};
 pub use text_lines::next_line;
 
 /// Arrays and objects nest at most so deep.

@@ -4,7 +4,7 @@ use crate::cutter::Cutter;
 use crate::frames::Frames;
 use crate::phase::{Frame, Phase, Role, Spot};
 use crate::table::{Move, behind_value, move_at};
-use outside::{NoMemory, Sequence};
+use basics::{NoMemory, Sequence};
 use std::alloc::Global;
 
 /// What has been read so far.

@@ -6,7 +6,7 @@ ghost use Rattle.json_span.specs.Grammar.{Value};
 ghost use Rattle.json_squeeze.specs.Squeeze.{is_space as space_test, squeezed, in_string};
 ghost use Rattle.json_squeeze.specs.Dense.{dense_text, IsSpelling, StaysObject, StaysArray, SqueezesValues, SqueezesAlike, SqueezesOnce, KeepsUtf8};
 
-use outside::{Bytes, NoMemory};
+use basics::{Bytes, NoMemory};
 use std::alloc::Global;
 
 /// The text without spaces, tabs, newlines and carriage returns outside strings. A string that does not end goes on

@@ -5,7 +5,7 @@ use Rattle.std.proofs.lemmas.Slice.Eq.{bytes_eq-Decides}
 use Rattle.json_span.specs.Members.{IsValue, IsSomeObject}
 use Rattle.json_span.specs.Elements.{IsSomeArray}
 use Rattle.json_fields.specs.Fields.{HasField, HasOptional, HasText, HasOptionalText, Holds, IsOptionalText, present}
-use Rattle.outside.specs.declared.event.StreamId.{StreamId}
+use Rattle.basics.specs.declared.stream.StreamId.{StreamId}
 use Rattle.airbyte_message.specs.Parts.{IsStreamId, NestsWithin, IsOptionalNumber}
 use Rattle.airbyte_message.specs.States.{IsState}
 use Rattle.airbyte_message.specs.Traces.{IsTrace, IsTold}

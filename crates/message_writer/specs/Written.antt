@@ -2,7 +2,7 @@
 use Rattle.std.specs.Prelude.{ℕ, List, [], ◌∷◌, Option, option_map, codes}
 use Rattle.std.specs.Fmt.{decimal}
 use Rattle.json.specs.Print.{quoted}
-use Rattle.outside.specs.declared.event.StreamId.{StreamId}
+use Rattle.basics.specs.declared.stream.StreamId.{StreamId}
 use Rattle.airbyte_message.specs.Words.{level_text, failure_text, status_text, connection_text, trace_text, type_text, payload_text}
 use Rattle.airbyte_message.specs.declared.failure_type.FailureType.{FailureType}
 use Rattle.airbyte_message.specs.declared.stream_status.StreamStatus.{StreamStatus}

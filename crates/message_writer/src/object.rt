@@ -5,7 +5,7 @@ ghost use Rattle.json_scalar.specs.Quotes.{in_quotes};
 ghost use Rattle.message_writer.specs.Objects.{more_text, optional, part_before};
 
 use json_span::quote;
-use outside::{Bytes, NoMemory};
+use basics::{Bytes, NoMemory};
 use std::alloc::Global;
 
 // Puts a member's name, with the colon behind it.

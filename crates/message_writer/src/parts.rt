@@ -4,7 +4,7 @@ ghost use Rattle.json.specs.Print.{quoted};
 ghost use Rattle.message_writer.specs.Objects.{more_text, optional, part_before};
 
 use crate::object::put_text;
-use outside::{Name, NoMemory, StreamId};
+use basics::{Name, NoMemory, StreamId};
 use std::alloc::Global;
 
 // Puts a further member that is the string of a text, where there is one.

@@ -6,7 +6,7 @@ ghost use Rattle.message_writer.specs.Written.{catalog_text, log_text, record_te
 use crate::object::{put_optional, put_raw, put_text};
 use crate::parts::{put_id, put_optional_text};
 use airbyte_message::{CatalogMsg, ConnectionMsg, LogMsg, RecordMsg, SpecMsg};
-use outside::NoMemory;
+use basics::NoMemory;
 use std::alloc::Global;
 
 // Puts the `record` of a RECORD line.

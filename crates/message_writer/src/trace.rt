@@ -9,7 +9,7 @@ ghost use Rattle.airbyte_message.specs.declared.trace_message.TraceType.TheVaria
 use crate::object::{put_name, put_optional, put_text};
 use crate::parts::put_id;
 use airbyte_message::{FailureType, Raw, StreamStatus, TraceMsg};
-use outside::{Name, NoMemory, StreamId};
+use basics::{Name, NoMemory, StreamId};
 use std::alloc::Global;
 
 // Puts a further member that is a failure type, where there is one.

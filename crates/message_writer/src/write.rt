@@ -9,7 +9,7 @@ use crate::object::{put_name, put_text};
 use crate::payload::{put_catalog, put_connection, put_log, put_record, put_spec};
 use crate::trace::put_trace;
 use airbyte_message::Message;
-use outside::{Bytes, NoMemory};
+use basics::{Bytes, NoMemory};
 use std::alloc::Global;
 
 // The type of a message's line.

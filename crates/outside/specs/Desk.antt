@@ -1,6 +1,6 @@
 -- What a desk tells.
-use Rattle.std.specs.Prelude.{◌≡◌, ◌⊎◌, ℕ, List, [], ◌∷◌, Option, None, Some}
-use Rattle.outside.specs.Told.{told_more}
+use Rattle.std.specs.Prelude.{◌≡◌, ◌⊎◌, ℕ, List, [], ◌∷◌, Option}
+use Rattle.basics.specs.Told.{told_more}
 
 -- the texts of a desk by name; a name without a text is a missing file
 abbrev pub Texts : Type 0

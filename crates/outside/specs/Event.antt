@@ -1,5 +1,5 @@
 -- Which events a link adds, and what a list of events says.
-use Rattle.std.specs.Prelude.{ℕ, List, [], ◌∷◌, fold, Bool, true, false}
+use Rattle.std.specs.Prelude.{ℕ, List, [], fold, Bool, true, false}
 use Rattle.outside.specs.declared.event.Event.{Event}
 use Rattle.outside.specs.declared.event.Event.TheVariants.{Opened, Took, TookEnd, Committed, Emitted, Merged, Shown, Started, ReadLine, ReadEnd, Given, Closed, Got, GotEnd, Saved, Ended}
 

@@ -1,7 +1,7 @@
 -- What a link tells, and what each of its calls adds.
 use Rattle.std.specs.Prelude.{◌≡◌, ◌⊎◌, ℕ, ◌≤◌, List, [], ◌∷◌, map, filter, Bool, true, false, ◌&&◌, if◌then◌else◌, Option, None, Some, option_map, is_some, Result, Ok, Err, MatchBool}
 use Rattle.std.specs.List.{AllByRecursion}
-use Rattle.outside.specs.Told.{told_by, told_more, Rose}
+use Rattle.basics.specs.Told.{told_by, told_more, Rose}
 use Rattle.outside.specs.Event.{is_links, read_over, got_over}
 use Rattle.outside.specs.declared.event.Event.{Event}
 use Rattle.outside.specs.declared.event.Event.TheVariants.{ReadLine, ReadEnd, Given, Got, GotEnd, Ended}

@@ -1,9 +1,10 @@
 // The desk: where texts are read from, and where lines are said.
 ghost use Rattle.std.specs.Prelude.{◌≡◌, ◌≤◌, ℕ, List, [], ◌∷◌, Option, Some, IfOk, IfSome, OnOk, IsErrOf};
-ghost use Rattle.outside.specs.Told.{told_more, RoseIf};
+ghost use Rattle.basics.specs.Told.{told_more, RoseIf};
 ghost use Rattle.outside.specs.Desk.{Texts, SaidOrNot};
 
-use crate::{Bytes, Fault};
+use crate::Fault;
+use basics::Bytes;
 use std::alloc::Global;
 
 /// Where a program reads whole texts by name, and says its lines.

@@ -1,17 +1,7 @@
 // What happens in a load and in an attempt, as the list of events that an object may tell.
 ghost use Rattle.std.specs.Prelude.{◌≡◌, IfOk};
 
-use crate::{Boxed, Bytes, Name, Sequence};
-
-/// A stream by its name and its namespace. An empty namespace is a namespace.
-#[derive(Debug, Drop)]
-pub struct StreamId {
-    pub name: Name,
-    pub namespace: Option<Name>,
-}
-
-/// A stream's place in the configured catalog, from 0.
-pub type StreamNo = u32;
+use basics::{Boxed, Bytes, Name, Sequence, StreamId, StreamNo};
 
 /// A record as a destination keeps it. The texts are JSON, but for `raw_id`, `key` and `cursor`.
 #[derive(Debug, Drop)]

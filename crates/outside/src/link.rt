@@ -1,11 +1,12 @@
 // The link: a source, a destination and the state store, as the worker reaches them.
 ghost use Rattle.std.specs.Prelude.{◌≡◌, ℕ, false, IsTrue, IfOk, IfSome, IsErrOf};
 ghost use Rattle.outside.specs.declared.event.Event.{Event};
-ghost use Rattle.outside.specs.Told.{Rose, RoseIf};
+ghost use Rattle.basics.specs.Told.{Rose, RoseIf};
 ghost use Rattle.outside.specs.Event.{stored};
 ghost use Rattle.outside.specs.Link.{Seen, own_events, Grew, AddsOn, ReadAdds, GotAdds, OfferAdds, StopAdds, KeepsCodes, kind_of, started_face, stopped_face, QuietPoll, QuietOffer, QuietCodes};
 
-use crate::{AttemptPlan, Bytes, Codes, Fault};
+use crate::{AttemptPlan, Codes, Fault};
+use basics::Bytes;
 use std::alloc::Global;
 
 /// What a poll of an output gave.

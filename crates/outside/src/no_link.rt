@@ -1,9 +1,10 @@
 // A link to nothing.
 ghost use Rattle.std.specs.Prelude.{◌≡◌, None, ⊤};
-ghost use Rattle.outside.specs.Told.{RoseIf};
+ghost use Rattle.basics.specs.Told.{RoseIf};
 ghost use Rattle.outside.specs.Link.{no_codes};
 
-use crate::{AttemptPlan, Bytes, Codes, Fault, Link, LinkCounts, Offered, PollKind, Polled};
+use crate::{AttemptPlan, Codes, Fault, Link, LinkCounts, Offered, PollKind, Polled};
+use basics::Bytes;
 use std::alloc::Global;
 
 const NO_CODES: Codes = Codes {

@@ -1,8 +1,9 @@
 // The desk of a process: files, and standard output through one buffer.
 ghost use Rattle.std.specs.Prelude.{◌≡◌, ◌≤◌, ◌<◌, ◌^◌, None, IsErrOf, length};
-ghost use Rattle.outside.specs.Told.{RoseIf};
+ghost use Rattle.basics.specs.Told.{RoseIf};
 
-use crate::{Bytes, Desk, Fault};
+use crate::{Desk, Fault};
+use basics::Bytes;
 use std::alloc::Global;
 use std::fs::File;
 use std::io::{self, BufWriter, ErrorKind, Printer, Read, Write};

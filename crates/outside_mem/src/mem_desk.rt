@@ -87,7 +87,7 @@ impl MemDesk {
 
 impl Desk for MemDesk {
     ghost use Rattle.std.specs.Prelude.{Contains, IfOk, OnOk, OnErr, IsErrOf, ◌++◌, ◌∷◌, []};
-    ghost use Rattle.outside.specs.Told.{RoseIf};
+    ghost use Rattle.basics.specs.Told.{RoseIf};
     ghost use Rattle.outside_mem.specs.MemDesk.{text_named, call_after, ReadsText, FailsToRead};
 
     ghost texts = { λ desk. Some (λ name. text_named desk.texts name) };

@@ -11,7 +11,7 @@ ghost use Rattle.piecewise_lines.specs.Found.{IsFound};
 ghost use Rattle.piecewise_lines.specs.declared.NextLine.TheVariants as answer;
 
 use memchr::memchr;
-use outside::{Bytes, NoMemory};
+use basics::{Bytes, NoMemory};
 use std::alloc::Global;
 use std::marker::Model;
 use std::mem;

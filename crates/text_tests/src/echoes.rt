@@ -1,6 +1,6 @@
 // The lines by which states are sent back.
 use airbyte_message::{Message, StateKind, echo_of, read_message};
-use outside::{Bytes, NoMemory};
+use basics::{Bytes, NoMemory};
 use std::alloc::Global;
 use std::test::Fail;
 

@@ -1,6 +1,6 @@
 // Which lines are records, and what they hold.
 use airbyte_message::{Message, RecordMsg, read_message};
-use outside::NoMemory;
+use basics::NoMemory;
 use std::alloc::Global;
 use std::test::Fail;
 

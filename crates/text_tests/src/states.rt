@@ -1,6 +1,6 @@
 // Which lines are states, and what they hold.
 use airbyte_message::{Message, StateKind, StateMsg, read_message};
-use outside::NoMemory;
+use basics::NoMemory;
 use std::alloc::{AllocError, Global};
 use std::test::Fail;
 

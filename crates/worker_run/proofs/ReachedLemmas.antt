@@ -1,7 +1,7 @@
 -- Worlds that are reached stay reached by a step.
 use Rattle.std.proofs.Common.{◌≡◌, ℕ, List, [], ◌∷◌, ◌++◌, Bool, true, false, cond, Result, Ok, Err, refl, sym, ◌∙◌, ap, subst, append_assoc}
 use Rattle.std.proofs.lemmas.List.{append-nil}
-use Rattle.outside.specs.declared.memory.NoMemory.{NoMemory}
+use Rattle.basics.specs.declared.memory.NoMemory.{NoMemory}
 use Rattle.outside.specs.declared.event.Event.{Event}
 use Rattle.worker_run.specs.declared.plain_world.Step.{Step}
 use Rattle.worker_run.specs.declared.plain_world.Step.TheVariants as step

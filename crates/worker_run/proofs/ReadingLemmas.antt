@@ -3,7 +3,7 @@ use Rattle.std.proofs.Common.{◌≡◌, ℕ, ◌+◌, List, [], ◌∷◌, ◌+
 use Rattle.std.proofs.lemmas.List.{append-nil, map-append, length-append}
 use Rattle.std.specs.List.{cons_option}
 use Rattle.std.proofs.lemmas.List.Elements.{filter_map-append}
-use Rattle.outside.specs.Told.{told_more}
+use Rattle.basics.specs.Told.{told_more}
 use Rattle.outside.specs.Desk.{SaidOrNot}
 use Rattle.outside.specs.declared.event.Event.{Event}
 use Rattle.worker_run.specs.Rounds.{Heard, Round, record_round, state_round, other_round, round_line, round_found, heard_of, heard_in, Counted, counted_after, counted_through, Fits, AreRounds}

@@ -1,7 +1,7 @@
 -- What an attempt and a run say, from what their parts said.
 use Rattle.std.proofs.Common.{◌≡◌, ◌⊎◌, inl, inr, ℕ, ◌+◌, List, [], ◌∷◌, ◌++◌, length, Bool, true, false, cond, Option, None, Some, IsSome, refl, sym, ◌∙◌, ap, subst, append_assoc, zero-add}
 use Rattle.std.proofs.lemmas.List.{append-nil}
-use Rattle.outside.specs.Told.{told_more, GrewByFront}
+use Rattle.basics.specs.Told.{told_more, GrewByFront}
 use Rattle.outside.specs.declared.status.Status.{Status}
 use Rattle.outside.specs.declared.status.Status.TheVariants as status
 use Rattle.outside.specs.declared.fault.Fault.{Fault}

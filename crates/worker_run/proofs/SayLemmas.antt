@@ -7,7 +7,7 @@ use Rattle.outside.specs.declared.event.Event.{Event}
 use Rattle.outside.specs.declared.event.RawRow.{RawRow}
 use Rattle.worker_run.specs.EventParts.{rows_of}
 use Rattle.worker_run.specs.Output.{row_line, body_lines, committed_lines}
-use Rattle.outside.specs.Told.{told_more, GrewByFront}
+use Rattle.basics.specs.Told.{told_more, GrewByFront}
 use Rattle.outside.specs.Desk.{SaidOrNot}
 use Rattle.worker_run.proofs.ReadingLemmas.{told_more-twice, told_more-none}
 

@@ -1,6 +1,6 @@
 -- How the worker goes through the lines of a file, and what a run says.
 use Rattle.std.specs.Prelude.{◌≡◌, ◌⊎◌, ℕ, ◌+◌, List, [], ◌∷◌, ◌++◌, map, length, Option, None, Some, IfSome}
-use Rattle.outside.specs.Told.{told_more}
+use Rattle.basics.specs.Told.{told_more}
 use Rattle.outside.specs.declared.status.Status.{Status}
 use Rattle.outside.specs.declared.status.Status.TheVariants as status
 use Rattle.outside.specs.declared.fault.Fault.{Fault}

@@ -1,6 +1,6 @@
 -- What a step of the plain world does.
 use Rattle.std.specs.Prelude.{◌≡◌, ℕ, ◌+◌, ◌≤◌, List, [], ◌∷◌, ◌++◌, length, Option, None, Some, Result, Ok, Err}
-use Rattle.outside.specs.declared.memory.NoMemory.{NoMemory}
+use Rattle.basics.specs.declared.memory.NoMemory.{NoMemory}
 use Rattle.outside.specs.declared.event.Event.{Event}
 use Rattle.airbyte_message.specs.Messages.{IsMessage}
 use Rattle.airbyte_message.specs.Echo.{IsEcho}

@@ -3,7 +3,7 @@ ghost use Rattle.std.specs.Prelude.{◌≡◌, ◌++◌, ◌∷◌, [], IfOk, On
 ghost use Rattle.worker_run.specs.EventParts.{rows_of};
 ghost use Rattle.worker_run.specs.Output.{usage_line, saved_line, attempt_line, status_line, table_line, table_lines, table_at, end_lines, body_lines, committed_lines, option_list, HeardOrNot};
 ghost use Rattle.outside.specs.Status.{status_text};
-ghost use Rattle.outside.specs.Told.{told_more, RoseIf, GrewByFront};
+ghost use Rattle.basics.specs.Told.{told_more, RoseIf, GrewByFront};
 ghost use Rattle.outside.specs.Desk.{SaidOrNot};
 
 use crate::PlainWorld;

@@ -1,6 +1,6 @@
 // The worker's top call.
 ghost use Rattle.std.specs.Prelude.{◌≡◌, ◌≢◌, None, IfNone, IsSome, map, string_bytes, IfOk, OnErr, IsErrOf};
-ghost use Rattle.outside.specs.Told.{Rose, RoseIf};
+ghost use Rattle.basics.specs.Told.{Rose, RoseIf};
 ghost use Rattle.worker_run.specs.Reading.{Reads, ReadsSome, Attempted, StopsShort, SaysBody, SaysLast, EndsAtFault, Says, IsOnlyEnd, EndsWithStatus, NothingUnbuilt, IsOkOrNoMemory, IsReadFault, IsSayFault, IsUsageEnd};
 ghost use Rattle.worker_run.specs.Words.{asked as asked_of};
 

@@ -1,5 +1,5 @@
 use Rattle.std.proofs.Common.{◌≡◌, ◌≤◌, take}
-use Rattle.outside.specs.Told.{told_more}
+use Rattle.basics.specs.Told.{told_more}
 use Rattle.worker_run.specs.Output.{body_lines}
 use Rattle.worker_run.proofs.output.say_bodies.Given as goal
 

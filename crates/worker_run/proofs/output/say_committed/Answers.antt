@@ -1,6 +1,6 @@
 use Rattle.std.proofs.Common.{rules, arith, ◌≡◌, ◌∙◌, ◌<◌, List, length, subst}
 use Rattle.outside.specs.declared.event.RawRow.{RawRow}
-use Rattle.outside.specs.Told.{told_more, GrewByFront}
+use Rattle.basics.specs.Told.{told_more, GrewByFront}
 use Rattle.worker_run.specs.Output.{body_lines}
 use Rattle.worker_run.proofs.SayLemmas.{front_rows, said_rows}
 use Rattle.worker_run.proofs.output.say_committed.Goals as goal

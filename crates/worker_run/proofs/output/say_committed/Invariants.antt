@@ -1,5 +1,5 @@
 use Rattle.std.proofs.Common.{◌≡◌, ◌≤◌, take}
-use Rattle.outside.specs.Told.{told_more}
+use Rattle.basics.specs.Told.{told_more}
 use Rattle.worker_run.specs.Output.{committed_lines}
 use Rattle.worker_run.proofs.output.say_committed.Given as goal
 

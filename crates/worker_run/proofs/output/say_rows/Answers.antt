@@ -1,6 +1,6 @@
 use Rattle.std.proofs.Common.{ℕ, List, [], ◌∷◌, ◌∙◌, ap, subst, length, ◌≡◌}
 use Rattle.outside.specs.declared.event.Event.{Event}
-use Rattle.outside.specs.Told.{told_more, GrewByFront}
+use Rattle.basics.specs.Told.{told_more, GrewByFront}
 use Rattle.worker_run.specs.Output.{table_line, committed_lines}
 use Rattle.worker_run.proofs.SayLemmas.{front_second}
 use Rattle.worker_run.proofs.output.say_rows.Goals as goal

@@ -1,6 +1,6 @@
 use Rattle.std.proofs.Common.{rules, ℕ, ◌≡◌, map, string_bytes, sym, subst}
 use Rattle.outside.specs.declared.status.Status.TheVariants as status
-use Rattle.outside.specs.Told.{Rose}
+use Rattle.basics.specs.Told.{Rose}
 use Rattle.worker_run.specs.Words.{asked}
 use Rattle.worker_run.proofs.RunLemmas.{says_last, says_only, says_status, says_complete}
 use Rattle.worker_run.proofs.top.run.Goals as goal

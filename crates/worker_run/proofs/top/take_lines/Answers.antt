@@ -1,5 +1,5 @@
 use Rattle.std.proofs.Common.{◌≡◌, ◌≤◌, Ok, sym, subst, ap, ◌∙◌, List, ℕ, [], ◌∷◌, arith}
-use Rattle.outside.specs.Told.{told_more}
+use Rattle.basics.specs.Told.{told_more}
 use Rattle.outside.specs.Desk.{SaidOrNot}
 use Rattle.worker_run.specs.Output.{saved_line}
 use Rattle.worker_run.specs.declared.plain_world.Step.{Step}
