@@ -18,10 +18,13 @@ pub record DeskSeen : Type 0 where
 abbrev pub SaidLines : List (List ℕ) → DeskSeen → DeskSeen → Type 0
 SaidLines lines old new = new.said ≡ told_more lines old.said
 
--- A front of these lines was said, and nothing else of the desk has changed but its count of faults of saying, which
--- rose where saying failed.
-pub record SaidFront (failed : Type 0) (lines : List (List ℕ)) (old new : DeskSeen) : Type 0 where
-  pub front : GrewByFront lines old.said new.said
+-- Nothing of the desk has changed but what was said and the count of faults of saying, which rose where saying failed.
+pub record SaysOnly (failed : Type 0) (old new : DeskSeen) : Type 0 where
   pub faults : RoseIf failed old.say_faults new.say_faults
   pub texts : new.texts ≡ old.texts
   pub read_faults : new.read_faults ≡ old.read_faults
+
+-- so, and what was said is a front of these lines
+pub record SaidFront (failed : Type 0) (lines : List (List ℕ)) (old new : DeskSeen) : Type 0 where
+  pub front : GrewByFront lines old.said new.said
+  pub only : SaysOnly failed old new
