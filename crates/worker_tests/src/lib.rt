@@ -6,8 +6,10 @@ mod desks;
 #[cfg(test)]
 mod failing;
 #[cfg(test)]
-mod heard;
+mod source_lines;
 #[cfg(test)]
 mod local;
+#[cfg(test)]
+mod statuses;
 #[cfg(test)]
 mod world;
