@@ -1,8 +1,9 @@
 -- The members without one name: one more member at the end, and that there is one such list.
-use Rattle.std.proofs.Common.{◌≡◌, ◌⊎◌, inl, inr, ℕ, List, [], ◌∷◌, ◌++◌, refl, sym, ◌∙◌, ap, subst, arith, ◌<◌, ◌+◌, length, take, slice_index_or}
+use Rattle.std.proofs.Common.{◌≡◌, ◌⊎◌, inl, inr, ℕ, List, [], ◌∷◌, ◌++◌, refl, sym, ◌∙◌, ap, subst, arith, ◌<◌, ◌+◌, length, take, slice_index_or, All}
 use Rattle.std.proofs.lemmas.List.{take_more}
 use Rattle.json_scalar.specs.Text.{IsString}
-use Rattle.json_span.specs.Members.{text_at}
+use Rattle.std.proofs.lemmas.List.Elements.{All-append, All-cons}
+use Rattle.json_span.specs.Members.{IsMemberOf, text_at}
 use Rattle.json_span.specs.declared.Member.{Member}
 use Rattle.json_fields.specs.Fields.{IsNamed}
 use Rattle.json_fields.specs.Parts.{Without}
@@ -39,3 +40,8 @@ Without-only text name (m ∷ members) kept others h g = go h.0 g.0 (Without-onl
     go a b same (inl x) (inr y) = absurd (y.0 x.0)
     go a b same (inr x) (inl y) = absurd (x.0 y.0)
     go a b same (inr x) (inr y) = y.1 ∙ ap (λ (l : List Member). m ∷ l) same ∙ sym x.1
+
+-- the members that are kept are members of the text
+pub parts_more : (text : List ℕ) (kept after : List Member) (m : Member) → after ≡ kept ++ m ∷ [] → IsMemberOf text m → All (IsMemberOf text) kept → All (IsMemberOf text) after
+parts_more text kept after m pushed is all =
+    subst (λ (ms : List Member). All (IsMemberOf text) ms) (sym pushed) (All-append (IsMemberOf text) kept (m ∷ []) all (All-cons (IsMemberOf text) m [] is (λ k d h. absurd (omega arith))))

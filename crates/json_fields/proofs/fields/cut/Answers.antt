@@ -1,4 +1,4 @@
-use Rattle.std.proofs.Common.{ap, Err, ◌<◌, ◌≤◌, arith}
+use Rattle.std.proofs.Common.{ap, Err, ◌<◌, arith}
 use Rattle.json_fields.proofs.fields.cut.Goals as goal
 
 pub returns-in-Ok-clause-cut : goal.returns-in-Ok-clause-cut

@@ -12,12 +12,12 @@ returns-in-Some-whole_of c =
     let count = count_answer c.in-Some.held.now c.whole_of.result known.found known.small known.only known.none in
     optional_count_told c.args.text.now c.args.name.now c.in-Some.held.now c.in-Some-whole_of.count (along_only (HasOptional c.args.text.now c.args.name.now) (ap option_copied c.in-Some.is) c.in_ok-held.ensures) (along (IsCount c.in-Some.held.now) c.in-Some-whole_of.is count)
 
-pub returns-in-Some-2 : goal.returns-in-Some-2
-returns-in-Some-2 c =
+pub returns-in-None-whole_of : goal.returns-in-None-whole_of
+returns-in-None-whole_of c =
     let known = c.whole_of.ensures in
     let count = count_answer c.in-Some.held.now c.whole_of.result known.found known.small known.only known.none in
     optional_uncounted c.args.text.now c.args.name.now c.in-Some.held.now (along_only (HasOptional c.args.text.now c.args.name.now) (ap option_copied c.in-Some.is) c.in_ok-held.ensures) (along (IsCount c.in-Some.held.now) c.in-None-whole_of.is count)
 
-pub returns : goal.returns
-returns c =
+pub returns-in-None : goal.returns-in-None
+returns-in-None c =
     optional_count_absent c.args.text.now c.args.name.now (along_only (HasOptional c.args.text.now c.args.name.now) (ap option_copied c.in-None.is) c.in_ok-held.ensures)
