@@ -62,7 +62,7 @@ pub fn field<'a>(
 }
 
 // Whether a value is `null`.
-fn is_null(value: &[u8]) -> bool
+pub fn is_null(value: &[u8]) -> bool
     ensures { result ≡ bytes_eq value.now (codes "null") }
 {
     value == b"null".as_slice()
