@@ -1,5 +1,5 @@
 -- Keys that are compared in place, from the last member back.
-use Rattle.std.proofs.Common.{◌≡◌, inl, inr, ℕ, ◌+◌, ◌-◌, ◌<◌, ◌≤◌, true, List, [], ◌∷◌, ◌++◌, length, take, drop, slice_index_or, slice_range, Option, None, Some, All, IsTrue, refl, sym, ap, ◌∙◌, subst, arith, length-append, add-one, drop-cons}
+use Rattle.std.proofs.Common.{◌≡◌, inl, inr, ℕ, zero, suc, ◌+◌, ◌-◌, ◌<◌, ◌≤◌, true, List, [], ◌∷◌, ◌++◌, length, take, drop, slice_get, slice_index_or, slice_range, Option, None, Some, All, IsTrue, refl, sym, ap, ◌∙◌, subst, arith, length-append, add-one, drop-cons}
 use Rattle.std.proofs.Math.Seq.{take-append_seam}
 use Rattle.std.proofs.lemmas.Bool.{and_parts}
 use Rattle.std.proofs.lemmas.List.{take-append-drop}
@@ -12,8 +12,8 @@ use Rattle.json_span.specs.Members.{text_at}
 use Rattle.json_span.specs.declared.Member.{Member}
 use Rattle.json_fields.specs.Answer.{IsOnly}
 use Rattle.json_fields.specs.Fields.{Holds}
-use Rattle.json_fields.specs.Words.{IsSomeString, is_word}
-use Rattle.json_fields.proofs.FieldLemmas.{Holds-only}
+use Rattle.json_fields.specs.Words.{IsSomeString, IsPlace, is_word}
+use Rattle.json_fields.proofs.FieldLemmas.{Holds-only, Some-injective}
 
 -- ---- one key
 
@@ -83,3 +83,15 @@ only_holds text name members found h = record { is = h; only = λ other g. Holds
 -- a string has one meaning
 pub string_only : (text meaning : List ℕ) → IsString text meaning → IsOnly (IsString text) meaning
 string_only text meaning s = record { is = s; only = λ other g. one_meaning text other meaning g s }
+
+-- an element by its place
+pub get_at : (members : List Member) (i : ℕ) (d : Member) → i < length members → slice_get members i ≡ Some (slice_index_or members i d)
+get_at [] i d lt = absurd (omega arith)
+get_at (m ∷ members) zero d lt = refl
+get_at (m ∷ members) (suc i) d lt = get_at members i d (omega arith)
+
+pub value_at : (text name : List ℕ) (members : List Member) (place : ℕ) (d : Member) (value : List ℕ) → IsPlace text name members place → value ≡ text_at text (slice_index_or members place d).value → IsOnly (Holds text name members) (Some value)
+value_at text name members place d value is e =
+    let same : Some (slice_index_or members place d) ≡ Some is.member = sym (get_at members place d is.below) ∙ is.at in
+    let member : slice_index_or members place d ≡ is.member = Some-injective (slice_index_or members place d) is.member same in
+    subst (λ (found : Option (List ℕ)). IsOnly (Holds text name members) found) (ap (λ (m : Member). Some (text_at text m.value)) (sym member) ∙ ap (λ (v : List ℕ). Some v) (sym e)) is.holds

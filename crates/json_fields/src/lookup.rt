@@ -6,7 +6,7 @@ ghost use Rattle.json_span.specs.Members.{IsMemberOf, IsValue};
 ghost use Rattle.json_fields.specs.Answer.{IsAnswer, IsOnly};
 ghost use Rattle.json_fields.specs.Fields.{HasField, HasOptional, HasOptionalText, HasText, Holds, IsCut};
 ghost use Rattle.json_fields.specs.Parts.{HasCount, HasObject};
-ghost use Rattle.json_fields.specs.Words.{IsSomeString, is_word, viewed};
+ghost use Rattle.json_fields.specs.Words.{IsPlaceOf, IsSomeString, is_word, viewed};
 
 use crate::fields::is_null;
 use crate::view::{TextView, first_not_plain, string_view};
@@ -30,7 +30,30 @@ fn is_key(alloc: Global, key: &[u8], name: &str) -> Result<bool, NoMemory>
     is_string_of(alloc, key, name)
 }
 
-/// What the last member of this name holds. The name is a word, whose bytes stand for themselves in a string.
+/// Where the last member of this name stands among the members. The name is a word, whose bytes stand for themselves in a
+/// string.
+pub fn place_of(
+    alloc: Global,
+    text: &[u8],
+    members: &[Member],
+    name: &str,
+) -> Result<Option<usize>, NoMemory>
+    requires parts { All (IsMemberOf text.now) members.now }
+    requires word { IsTrue (is_word name.now) }
+    ensures { IfOk result (IsPlaceOf text.now name.now members.now) }
+{
+    let mut left = members.len();
+    while left > 0 {
+        left -= 1;
+        let member = members[left];
+        if is_key(alloc, member.key.of(text), name)? {
+            return Ok(Some(left));
+        }
+    }
+    Ok(None)
+}
+
+/// What the last member of this name holds.
 pub fn member_of<'a>(
     alloc: Global,
     text: &'a [u8],
@@ -42,15 +65,13 @@ pub fn member_of<'a>(
     ensures holds { IfOk result (λ found. IsOnly (Holds text.now name.now members.now) (option_copied found)) }
     ensures value { IfOk result (λ found. IfSome found (λ held. IsValue held.now)) }
 {
-    let mut left = members.len();
-    while left > 0 {
-        left -= 1;
-        let member = members[left];
-        if is_key(alloc, member.key.of(text), name)? {
-            return Ok(Some(member.value.of(text)));
+    match place_of(alloc, text, members, name)? {
+        Some(place) => {
+            let member = members[place];
+            Ok(Some(member.value.of(text)))
         }
+        None => Ok(None),
     }
-    Ok(None)
 }
 
 /// What the member of this name holds.

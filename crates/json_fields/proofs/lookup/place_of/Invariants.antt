@@ -1,6 +1,6 @@
 use Rattle.std.proofs.Common.{◌≤◌, length, drop, None}
 use Rattle.json_fields.specs.Fields.{Holds}
-use Rattle.json_fields.proofs.lookup.member_of.Given as goal
+use Rattle.json_fields.proofs.lookup.place_of.Given as goal
 
 -- no member behind has the name
 abbrev pub invariant-loop-left : goal.invariant-loop-left
