@@ -4,8 +4,8 @@ ghost use Rattle.json_fields.specs.Answer.{IsAnswer};
 ghost use Rattle.airbyte_message.specs.Messages.{IsRecord};
 
 use crate::RecordMsg;
-use crate::parts::{copied, count_field, object_field, stream_id_of};
-use json_fields::{cut, optional};
+use crate::parts::{copied, stream_id_of};
+use json_fields::{count_field, cut, object_field, optional};
 use json_span::MAX_DEPTH;
 use basics::{Bytes, NoMemory};
 use std::alloc::Global;

@@ -2,8 +2,8 @@ mod Options
 mod Powers
 mod Spellings
 mod Cuts
-mod Values
-mod Contents
+pub mod Values
+pub mod Contents
 mod Lexing
-mod Plain
+pub mod Plain
 mod Decoded
