@@ -3,4 +3,5 @@ pub mod Grammar
 pub mod Levels
 pub mod Machine
 pub mod Members
+pub mod Plain
 pub mod Table

@@ -71,7 +71,7 @@ impl Machine {
 
     /// Makes a move at this place.
     #[inline(always)]
-    fn make(&mut self, next: Move, here: u64) -> Result<(), NoMemory>
+    pub fn make(&mut self, next: Move, here: u64) -> Result<(), NoMemory>
         requires { here + 1 < 2 ^ 64 }
         ensures { OnOk result (self.new ≡ made next self.old here (here + 1)) }
     {
