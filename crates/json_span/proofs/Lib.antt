@@ -11,6 +11,7 @@ pub mod Lanes
 pub mod Numbers
 pub mod Parts
 pub mod Places
+pub mod Reading
 pub mod Run
 pub mod Runs
 pub mod Sound

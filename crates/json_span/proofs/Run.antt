@@ -86,7 +86,7 @@ taken_on text m middle after from at to f g =
     }
 
 -- what the machine makes of the whole text
-over-run : (size : ℕ) (bs : List ℕ) (m : Machine) (at : ℕ) → size ≡ at + length bs → over at m bs ≡ run size m bs
+pub over-run : (size : ℕ) (bs : List ℕ) (m : Machine) (at : ℕ) → size ≡ at + length bs → over at m bs ≡ run size m bs
 over-run size [] m at e = refl
 over-run size (b ∷ bs) m at e =
     let here : at ≡ size - length (b ∷ bs) = omega arith in

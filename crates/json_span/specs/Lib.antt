@@ -4,4 +4,5 @@ pub mod Levels
 pub mod Machine
 pub mod Members
 pub mod Plain
+pub mod Reading
 pub mod Table

@@ -130,9 +130,13 @@ abbrev pub run : ℕ → Machine → List ℕ → Machine
 run size m [] = m
 run size m (b ∷ bs) = run size (stepped m b (size - length (b ∷ bs)) (size - length bs)) bs
 
+-- nothing is cut yet
+abbrev pub uncut : Cutter
+uncut = record { key_start = 0; key_end = 0; value_start = 0; members = []; elements = [] }
+
 -- before the text of an array, or of an object
 abbrev pub initial : Frame → Machine
-initial f = record { phase = phase.Start f; frames = []; deepest = 0; cutter = record { key_start = 0; key_end = 0; value_start = 0; members = []; elements = [] } }
+initial f = record { phase = phase.Start f; frames = []; deepest = 0; cutter = uncut }
 
 -- what the whole text makes of the machine
 abbrev pub read_whole : Frame → List ℕ → Machine

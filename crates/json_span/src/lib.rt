@@ -73,6 +73,7 @@ mod frames;
 mod levels;
 mod machine;
 mod phase;
+mod reader;
 mod skip;
 mod table;
 mod token;

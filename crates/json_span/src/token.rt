@@ -1,7 +1,7 @@
 // Reading a token at a time: the bytes of a key, of a value and of what stands around them in one go. Where a token
 // does not go on as it mostly does, what stands here is read byte by byte.
 use crate::machine::Machine;
-use crate::phase::{Frame, Letter, Part, Phase, Role, Spot, run_at};
+use crate::phase::{Frame, Letter, Part, Phase, Role, Spot, is_over, run_at};
 use crate::skip::skip;
 use crate::table::Move;
 use basics::NoMemory;
@@ -10,7 +10,8 @@ use basics::NoMemory;
 impl Machine {
     ghost use Rattle.std.specs.Prelude.{◌≡◌, ◌⊎◌, ◌+◌, ◌<◌, ◌≤◌, IfOk, OnOk, length, slice_index};
     ghost use Rattle.json_span.specs.Table.{move_of, class_of, after_move};
-    ghost use Rattle.json_span.specs.Machine.{IsTaken, IsSimple, IsEnding, made};
+    ghost use Rattle.json_span.specs.Machine.{IsTaken, IsSimple, IsEnding, initial, made, read_to};
+    ghost use Rattle.json_span.specs.declared.phase.Frame.TheVariants as frame;
     ghost use Rattle.json_span.specs.declared.phase.Role.TheVariants as role;
     ghost use Rattle.json_span.specs.declared.phase.Spot.TheVariants as spot;
     ghost use Rattle.json_span.specs.declared.phase.Part.TheVariants as part;
@@ -422,5 +423,19 @@ impl Machine {
             Phase::Text(role, Spot::Plain) => self.take_more(text, at, role),
             _ => self.advance(text, at),
         }
+    }
+
+    /// Reads the object that a text begins with, and no further than to its end; where it is none, to where that shows
+    /// or to the end of the text.
+    pub fn read_front(&mut self, text: &[u8]) -> Result<usize, NoMemory>
+        ensures read { IfOk result (λ to. self.new ≡ read_to text.now (initial frame.Object) 0 to) }
+        ensures place { IfOk result (λ to. to ≤ length text.now) }
+    {
+        self.restart(Frame::Object);
+        let mut at = 0;
+        while at < text.len() && !is_over(self.phase) {
+            at = self.take(text, at)?;
+        }
+        Ok(at)
     }
 }
