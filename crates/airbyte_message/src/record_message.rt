@@ -5,9 +5,9 @@ ghost use Rattle.airbyte_message.specs.Messages.{IsRecord};
 
 use crate::RecordMsg;
 use crate::parts::{copied, stream_id_of};
+use basics::{Bytes, NoMemory};
 use json_fields::{count_field, cut, object_field, optional};
 use json_span::MAX_DEPTH;
-use basics::{Bytes, NoMemory};
 use std::alloc::Global;
 
 /// The record that a payload is.

@@ -6,9 +6,9 @@ mod desks;
 #[cfg(test)]
 mod failing;
 #[cfg(test)]
-mod source_lines;
-#[cfg(test)]
 mod local;
+#[cfg(test)]
+mod source_lines;
 #[cfg(test)]
 mod statuses;
 #[cfg(test)]

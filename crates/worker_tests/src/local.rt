@@ -216,7 +216,8 @@ fn null_members_and_white_space_of_a_catalog_are_passed_over(rt: HostRuntime) ->
 fn a_name_with_control_bytes_begins_no_line(rt: HostRuntime) -> Result<(), Fail> {
     let alloc = rt.alloc();
     let words = local_words(alloc)?;
-    let catalog = r#"{"streams":[{"stream":{"name":"a\nstatus 0 Ok\u0001"},"sync_mode":"incremental","destination_sync_mode":"append"}]}"#;
+    let catalog =
+        r#"{"streams":[{"stream":{"name":"a\nstatus 0 Ok\u0001"},"sync_mode":"incremental","destination_sync_mode":"append"}]}"#;
     let mut desk = desk_of(alloc, b"", catalog.as_bytes(), 0)?;
     let answer = worker_run::run(alloc, &mut desk, &mut NoLink::new(), &words);
     assert_eq!(rt; answer, Status::Ok);

@@ -1,5 +1,7 @@
 // The plain world, and the small types of the outside, on their happy paths.
-use outside::{AttemptPlan, Boxed, Bytes, Event, Fault, Job, Link, Name, NoLink, Offered, Polled, Sequence};
+use outside::{
+    AttemptPlan, Boxed, Bytes, Event, Fault, Job, Link, Name, NoLink, Offered, Polled, Sequence,
+};
 use std::test::Fail;
 use worker_run::{PlainWorld, Step};
 
