@@ -7,3 +7,4 @@ pub mod Contents
 mod Lexing
 pub mod Plain
 mod Decoded
+mod Decimals
