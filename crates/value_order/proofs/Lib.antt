@@ -1,0 +1,6 @@
+pub mod DecimalLemmas
+pub mod OrderLemmas
+pub mod SizeLemmas
+pub mod SignLemmas
+pub mod TieLemmas
+pub mod TextLemmas

@@ -1,0 +1,6 @@
+pub mod Order
+pub mod Texts
+pub mod Held
+pub mod Parts
+pub mod Places
+pub mod Normal
