@@ -4,3 +4,4 @@ pub mod SizeLemmas
 pub mod SignLemmas
 pub mod TieLemmas
 pub mod TextLemmas
+pub mod ReadLemmas

@@ -1,18 +1,17 @@
 -- Texts of values: where they end, and that they tell values apart.
-use Rattle.std.proofs.Common.{◌≡◌, ◌≢◌, ◌⊎◌, ◌↔◌, inl, inr, ℕ, zero, suc, ◌+◌, ◌-◌, ◌*◌, ◌^◌, ◌<◌, ◌≤◌, ℤ, pos, negsuc, ◌≤ℤ◌, Bool, true, false, List, [], ◌∷◌, ◌++◌, length, arith, refl, sym, ap, ◌∙◌, subst, append_assoc, lit<}
+use Rattle.std.proofs.Common.{◌≡◌, ℕ, suc, ◌^◌, ◌<◌, ℤ, pos, negsuc, ◌≤ℤ◌, Bool, true, false, List, [], ◌∷◌, ◌++◌, length, arith, refl, sym, ap, ◌∙◌, subst, append_assoc}
 use Rattle.std.specs.Char.{digit_value}
 use Rattle.std.specs.Fmt.{decimal, signed_decimal}
 use Rattle.std.specs.Int.{w128}
 use Rattle.std.specs.Prelude.{FitsSigned}
 use Rattle.std.specs.Str.Parse.{AllDigits, digits_value}
-use Rattle.std.specs.declared.cmp.Ordering.{Ordering}
-use Rattle.std.specs.declared.cmp.Ordering.TheVariants.{Less, Equal, Greater}
-use Rattle.std.proofs.lemmas.Bool.{true≢false}
+use Rattle.std.specs.declared.cmp.Ordering.TheVariants.{Equal}
 use Rattle.std.proofs.lemmas.Cmp.{tied_itself}
 use Rattle.std.proofs.lemmas.Fmt.{decimal_is_IsNumeral_wide}
 use Rattle.std.proofs.lemmas.Int.{ints}
 use Rattle.value_order.specs.Order.{order_of}
 use Rattle.value_order.specs.Texts.{counted_text, minus_text, decimal_text, text_of}
+use Rattle.value_order.specs.Marks.{Lacks}
 use Rattle.value_order.specs.Held.{IsHeld, TextsAreDistinct, TextsEnd, TiesHaveOneText}
 use Rattle.value_order.specs.declared.decimal.Decimal.{Decimal}
 use Rattle.value_order.specs.declared.value.Value.{Value}
@@ -21,15 +20,10 @@ use Rattle.value_order.proofs.DecimalLemmas.{same_decimal}
 use Rattle.value_order.proofs.OrderLemmas.{order_total}
 use Rattle.value_order.proofs.TieLemmas.{ties}
 
--- the byte does not stand in the list
-abbrev pub Lacks : ℕ → List ℕ → Type 0
-Lacks mark [] = Unit {0}
-Lacks mark (x ∷ xs) = (x ≢ mark) × Lacks mark xs
-
-heads : (x y : ℕ) (xs ys : List ℕ) → x ∷ xs ≡ y ∷ ys → x ≡ y
+pub heads : (x y : ℕ) (xs ys : List ℕ) → x ∷ xs ≡ y ∷ ys → x ≡ y
 heads x y xs ys e = cc
 
-tails : (x y : ℕ) (xs ys : List ℕ) → x ∷ xs ≡ y ∷ ys → xs ≡ ys
+pub tails : (x y : ℕ) (xs ys : List ℕ) → x ∷ xs ≡ y ∷ ys → xs ≡ ys
 tails x y xs ys e = cc
 
 -- a list is cut at the first byte of a kind in one way
@@ -65,7 +59,7 @@ pub decimal_injective_wide : (m n : ℕ) → m < 10 ^ 64 → n < 10 ^ 64 → dec
 decimal_injective_wide m n p q e = sym (decimal_is_IsNumeral_wide m p).1 ∙ ap (digits_value 10) e ∙ (decimal_is_IsNumeral_wide n q).1
 
 -- a minus is no digit
-no_minus : (n : ℕ) (rest : List ℕ) → n < 10 ^ 64 → 45 ∷ rest ≡ decimal n → ⊥
+pub no_minus : (n : ℕ) (rest : List ℕ) → n < 10 ^ 64 → 45 ∷ rest ≡ decimal n → ⊥
 no_minus n rest small e =
     let lacks : Lacks 45 (45 ∷ rest) = subst (λ (l : List ℕ). Lacks 45 l) (sym e) (decimal_lacks 45 n (λ h. omega (arith, h)) small) in
     lacks.0 refl
@@ -100,15 +94,15 @@ signed_injective x y p q e =
     let parts = sign_split (is_below x) (is_below y) (above x) (above y) p q (sym (signed_parts x) ∙ e ∙ signed_parts y) in
     same_integer x y parts.0 parts.1
 
-lacks_append : (mark : ℕ) (xs ys : List ℕ) → Lacks mark xs → Lacks mark ys → Lacks mark (xs ++ ys)
+pub lacks_append : (mark : ℕ) (xs ys : List ℕ) → Lacks mark xs → Lacks mark ys → Lacks mark (xs ++ ys)
 lacks_append mark [] ys p q = q
 lacks_append mark (x ∷ xs) ys p q = (p.0, lacks_append mark xs ys p.1 q)
 
-minus_lacks : (mark : ℕ) (a : Bool) → (45 ≡ mark → ⊥) → Lacks mark (minus_text a)
+pub minus_lacks : (mark : ℕ) (a : Bool) → (45 ≡ mark → ⊥) → Lacks mark (minus_text a)
 minus_lacks mark true other = (other, tt)
 minus_lacks mark false other = tt
 
-signed_lacks : (mark : ℕ) (z : ℤ) → (digit_value mark < 10 → ⊥) → (45 ≡ mark → ⊥) → above z < 10 ^ 64 → Lacks mark (signed_decimal z)
+pub signed_lacks : (mark : ℕ) (z : ℤ) → (digit_value mark < 10 → ⊥) → (45 ≡ mark → ⊥) → above z < 10 ^ 64 → Lacks mark (signed_decimal z)
 signed_lacks mark z digit minus small =
     subst (λ (l : List ℕ). Lacks mark l) (sym (signed_parts z)) (lacks_append mark (minus_text (is_below z)) (decimal (above z)) (minus_lacks mark (is_below z) minus) (decimal_lacks mark (above z) digit small))
 
@@ -145,12 +139,12 @@ decimal_end a b s t e =
     let end = signed_end 59 a.exponent b.exponent s t (λ h. omega (arith, h)) (λ h. omega (arith, h)) (exponent_small a) (exponent_small b) split.1 in
     (same_decimal a b parts.0 parts.1 end.0, end.1)
 
-small_instant : (z : ℤ) → FitsSigned w128 z → above z < 10 ^ 64
+pub small_instant : (z : ℤ) → FitsSigned w128 z → above z < 10 ^ 64
 small_instant (pos n) fits = let h = fits.sfits in omega (arith, h)
 small_instant (negsuc n) fits = let h = fits.sfits in omega (arith, h)
 
 -- the byte at the front of a value's text, and what follows it
-abbrev mark_of : Value → ℕ
+abbrev pub mark_of : Value → ℕ
 mark_of Null = 110
 mark_of False = 102
 mark_of True = 116
@@ -159,7 +153,7 @@ mark_of (Text name) = 34
 mark_of (Instant n) = 64
 mark_of (Other bytes) = 63
 
-abbrev behind_mark : Value → List ℕ
+abbrev pub behind_mark : Value → List ℕ
 behind_mark Null = []
 behind_mark False = []
 behind_mark True = []
@@ -168,7 +162,7 @@ behind_mark (Text name) = counted_text name
 behind_mark (Instant n) = signed_decimal n
 behind_mark (Other bytes) = counted_text bytes
 
-marked : (v : Value) → text_of v ≡ mark_of v ∷ behind_mark v
+pub marked : (v : Value) → text_of v ≡ mark_of v ∷ behind_mark v
 marked Null = refl
 marked False = refl
 marked True = refl

@@ -4,3 +4,4 @@ pub mod Held
 pub mod Parts
 pub mod Places
 pub mod Normal
+pub mod Marks

@@ -1,5 +1,5 @@
 -- The text of a value.
-use Rattle.std.specs.Prelude.{◌≡◌, ℕ, List, [], ◌∷◌, ◌++◌, length, Bool, true, false, decimal}
+use Rattle.std.specs.Prelude.{ℕ, List, [], ◌∷◌, ◌++◌, length, Bool, true, false, decimal}
 use Rattle.std.specs.Fmt.{signed_decimal}
 use Rattle.value_order.specs.declared.value.Value.{Value}
 use Rattle.value_order.specs.declared.value.Value.TheVariants.{Null, False, True, Number, Text, Instant, Other}

@@ -1,9 +1,10 @@
 // The value that a text is of.
-ghost use Rattle.std.specs.Prelude.{◌≡◌, ◌≢◌, ◌<◌, ◌^◌, ◌-◌, ◌⊎◌, ◌∷◌, ◌++◌, ℕ, ℤ, negsuc, List, length, slice_index, IfOk, IfSome, IfNone, decimal, FitsSigned};
+ghost use Rattle.std.specs.Prelude.{◌≡◌, ◌≢◌, ◌<◌, ◌^◌, ◌-◌, ◌⊎◌, ◌∷◌, ◌++◌, ℕ, ℤ, pos, negsuc, ◌≤◌, List, length, IfOk, IfSome, IfNone, decimal, FitsSigned};
 ghost use Rattle.std.specs.Int.{w128};
 ghost use Rattle.std.specs.Fmt.{signed_decimal};
 ghost use Rattle.value_order.specs.Texts.{counted_text, decimal_text, text_of};
 ghost use Rattle.value_order.specs.Held.{IsHeld};
+ghost use Rattle.value_order.specs.Marks.{Lacks};
 ghost use Rattle.value_order.specs.declared.decimal.Decimal.{Decimal};
 ghost use Rattle.value_order.specs.declared.value.Value.{Value};
 
@@ -22,15 +23,63 @@ pub fn read_value(alloc: Global, text: &[u8]) -> Result<Option<Value>, NoMemory>
     ensures held { IfOk result (λ found. IfSome found IsHeld) }
     ensures none { IfOk result (λ found. IfNone found ((value : Value) → IsHeld value → text_of value ≢ text.now)) }
 {
-    match text {
-        [b'n'] => Ok(Some(Value::Null)),
-        [b'f'] => Ok(Some(Value::False)),
-        [b't'] => Ok(Some(Value::True)),
-        [b'#', rest @ ..] => Ok(decimal_of(rest).map(Value::Number)),
-        [b'"', rest @ ..] => name_of(alloc, rest),
-        [b'@', rest @ ..] => Ok(integer_of(rest).map(Value::Instant)),
-        [b'?', rest @ ..] => bytes_of(alloc, rest),
+    match text.split_first() {
+        Some((mark, rest)) => read_behind(alloc, *mark, rest),
+        None => Ok(None),
+    }
+}
+
+// The value whose text is the mark and what stands behind it.
+fn read_behind(alloc: Global, mark: u8, rest: &[u8]) -> Result<Option<Value>, NoMemory>
+    ensures found { IfOk result (λ found. IfSome found (λ value. text_of value ≡ mark ∷ rest.now)) }
+    ensures held { IfOk result (λ found. IfSome found IsHeld) }
+    ensures none { IfOk result (λ found. IfNone found ((value : Value) → IsHeld value → text_of value ≢ mark ∷ rest.now)) }
+{
+    match mark {
+        b'n' => Ok(if rest.is_empty() {
+            Some(Value::Null)
+        } else {
+            None
+        }),
+        b'f' => Ok(if rest.is_empty() {
+            Some(Value::False)
+        } else {
+            None
+        }),
+        b't' => Ok(if rest.is_empty() {
+            Some(Value::True)
+        } else {
+            None
+        }),
+        b'#' => Ok(number_of(rest)),
+        b'"' => name_of(alloc, rest),
+        b'@' => Ok(instant_of(rest)),
+        b'?' => bytes_of(alloc, rest),
         _ => Ok(None),
+    }
+}
+
+// The decimal whose text stands behind its mark.
+fn number_of(text: &[u8]) -> Option<Value>
+    ensures found { IfSome result (λ value. text_of value ≡ 35 ∷ text.now) }
+    ensures held { IfSome result IsHeld }
+    ensures none { IfNone result ((value : Value) → IsHeld value → text_of value ≢ 35 ∷ text.now) }
+{
+    match decimal_of(text) {
+        Some(number) => Some(Value::Number(number)),
+        None => None,
+    }
+}
+
+// The instant whose text stands behind its mark.
+fn instant_of(text: &[u8]) -> Option<Value>
+    ensures found { IfSome result (λ value. text_of value ≡ 64 ∷ text.now) }
+    ensures held { IfSome result IsHeld }
+    ensures none { IfNone result ((value : Value) → IsHeld value → text_of value ≢ 64 ∷ text.now) }
+{
+    match integer_of(text) {
+        Some(nanoseconds) => Some(Value::Instant(nanoseconds)),
+        None => None,
     }
 }
 
@@ -61,15 +110,14 @@ fn bytes_of(alloc: Global, text: &[u8]) -> Result<Option<Value>, NoMemory>
     }
 }
 
-// The place of the first byte of this kind.
-fn place_of(text: &[u8], byte: u8) -> Option<usize>
-    ensures found { IfSome result (λ at. (at < length text.now) × (slice_index text.now at ≡ byte)) }
-    ensures first { IfSome result (λ at. (k : ℕ) → k < at → slice_index text.now k ≢ byte) }
-    ensures none { IfNone result ((k : ℕ) → k < length text.now → slice_index text.now k ≢ byte) }
+// What stands in front of the first such byte, and what stands behind it.
+fn split_at(text: &[u8], byte: u8) -> Option<(&[u8], &[u8])>
+    ensures found { IfSome result (λ parts. (text.now ≡ parts.0.now ++ byte ∷ parts.1.now) × Lacks byte parts.0.now) }
+    ensures none { IfNone result (Lacks byte text.now) }
 {
     for (at, found) in text.iter().enumerate() {
         if *found == byte {
-            return Some(at);
+            return Some((&text[..at], &text[at + 1..]));
         }
     }
     None
@@ -77,17 +125,19 @@ fn place_of(text: &[u8], byte: u8) -> Option<usize>
 
 // The bytes whose counted text this is.
 fn counted(text: &[u8]) -> Option<&[u8]>
-    ensures found { IfSome result (λ bytes. counted_text bytes.now ≡ text.now) }
-    ensures small { IfSome result (λ bytes. length bytes.now < 2 ^ 63) }
+    ensures found { IfSome result (λ bytes. (counted_text bytes.now ≡ text.now) × (length bytes.now < 2 ^ 63)) }
     ensures none { IfNone result ((bytes : List ℕ) → length bytes < 2 ^ 63 → counted_text bytes ≢ text.now) }
 {
-    let colon = place_of(text, b':')?;
-    let bytes = &text[colon + 1..];
-    let mut buffer = Buffer::new();
-    if buffer.format(bytes.len()).as_bytes() == &text[..colon] {
-        Some(bytes)
-    } else {
-        None
+    match split_at(text, b':') {
+        Some((count, bytes)) => {
+            let mut buffer = Buffer::new();
+            if buffer.format(bytes.len()).as_bytes() == count {
+                Some(bytes)
+            } else {
+                None
+            }
+        }
+        None => None,
     }
 }
 
@@ -110,15 +160,43 @@ fn natural_of(text: &[u8]) -> Option<u128>
     }
 }
 
+// What stands behind a minus, where there is one.
+fn behind_minus(text: &[u8]) -> Option<&[u8]>
+    ensures found { IfSome result (λ rest. text.now ≡ 45 ∷ rest.now) }
+    ensures none { IfNone result ((rest : List ℕ) → text.now ≢ 45 ∷ rest) }
+{
+    match text.split_first() {
+        Some((first, rest)) => { if *first == b'-' { Some(rest) } else { None } }
+        None => None,
+    }
+}
+
 // The whole number whose text this is.
 fn integer_of(text: &[u8]) -> Option<i128>
     ensures found { IfSome result (λ n. signed_decimal n ≡ text.now) }
     ensures none { IfNone result ((n : ℤ) → FitsSigned w128 n → signed_decimal n ≢ text.now) }
 {
-    match text {
-        [b'-', rest @ ..] => below_zero(natural_of(rest)?),
-        _ => i128::try_from(natural_of(text)?).ok(),
+    match behind_minus(text) {
+        Some(digits) => match natural_of(digits) {
+            Some(number) => below_zero(number),
+            None => None,
+        },
+        None => match natural_of(text) {
+            Some(number) => from_zero(number),
+            None => None,
+        },
     }
+}
+
+// A number without a minus.
+fn from_zero(number: u128) -> Option<i128>
+    ensures found { IfSome result (λ n. n ≡ pos number) }
+    ensures none { IfNone result (2 ^ 127 ≤ number) }
+{
+    if number >= MOST_BELOW_ZERO {
+        return None;
+    }
+    Some(number as i128)
 }
 
 // A number with a minus: 0 has none.
@@ -137,9 +215,9 @@ fn decimal_of(text: &[u8]) -> Option<Decimal>
     ensures found { IfSome result (λ d. decimal_text d ≡ text.now) }
     ensures none { IfNone result ((d : Decimal) → decimal_text d ≢ text.now) }
 {
-    match text {
-        [b'-', rest @ ..] => decimal_behind(true, rest),
-        _ => decimal_behind(false, text),
+    match behind_minus(text) {
+        Some(rest) => decimal_behind(true, rest),
+        None => decimal_behind(false, text),
     }
 }
 
@@ -148,8 +226,22 @@ fn decimal_behind(negative: bool, text: &[u8]) -> Option<Decimal>
     ensures found { IfSome result (λ d. (d.negative ≡ negative) × (decimal d.digits ++ 101 ∷ signed_decimal d.exponent ≡ text.now)) }
     ensures none { IfNone result ((d : Decimal) → d.negative ≡ negative → decimal d.digits ++ 101 ∷ signed_decimal d.exponent ≢ text.now) }
 {
-    let letter = place_of(text, b'e')?;
-    let digits = natural_of(&text[..letter])?;
-    let exponent = integer_of(&text[letter + 1..])?;
-    Decimal::normal(negative, digits, exponent)
+    match split_at(text, b'e') {
+        Some((digits, exponent)) => decimal_from(negative, digits, exponent),
+        None => None,
+    }
+}
+
+// The decimal of this sign with these texts of its digits and its exponent.
+fn decimal_from(negative: bool, digits: &[u8], exponent: &[u8]) -> Option<Decimal>
+    ensures found { IfSome result (λ d. (d.negative ≡ negative) × (decimal d.digits ≡ digits.now) × (signed_decimal d.exponent ≡ exponent.now)) }
+    ensures none { IfNone result ((d : Decimal) → d.negative ≡ negative → decimal d.digits ≡ digits.now → signed_decimal d.exponent ≢ exponent.now) }
+{
+    match natural_of(digits) {
+        Some(number) => match integer_of(exponent) {
+            Some(power) => Decimal::normal(negative, number, power),
+            None => None,
+        },
+        None => None,
+    }
 }

@@ -73,7 +73,14 @@ fn put_counted(text: &mut Vec<u8>, mark: u8, bytes: &[u8]) -> Result<(), NoMemor
 fn put_decimal(text: &mut Vec<u8>, number: &Decimal) -> Result<(), NoMemory>
     ensures { OnOk result (text.new.items ≡ text.old.items ++ 35 ∷ decimal_text number.now) }
 {
-    put(text, if number.negative { b"#-".as_slice() } else { b"#".as_slice() })?;
+    put(
+        text,
+        if number.negative {
+            b"#-".as_slice()
+        } else {
+            b"#".as_slice()
+        },
+    )?;
     let mut digits = Buffer::new();
     put(text, digits.format(number.digits).as_bytes())?;
     text.push(b'e')?;

@@ -1,4 +1,4 @@
-use Rattle.std.proofs.Common.{◌≡◌, ◌<◌, ◌≤◌, ◌-◌, ◌+◌, ◌*◌, ◌^◌, ℕ, arith, ap, sym, ◌∙◌}
+use Rattle.std.proofs.Common.{◌≡◌, ◌+◌, ◌*◌, ℕ, arith, ap, sym, ◌∙◌}
 use Rattle.value_order.proofs.SizeLemmas.{aligned_short, raise_short, aligned_order, aligned_order_other}
 use Rattle.value_order.proofs.order.compare_aligned.Goals as goal
 

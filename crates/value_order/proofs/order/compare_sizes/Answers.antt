@@ -21,5 +21,5 @@ returns-in_default c =
     let e = c.cmp-2.ensures in
     let apart = λ (same : nat_cmp (c.digit_count.result + c.raised.result) (c.digit_count-2.result + c.raised-2.result) ≡ Equal). c.in_default.not-Equal (e ∙ same) in
     e ∙ apart_order a.digits b.digits c.digit_count.result c.digit_count-2.result (raised a.exponent) (raised b.exponent) (c.digit_count.result + c.raised.result) (c.digit_count-2.result + c.raised-2.result)
-      c.digit_count.ensures.above c.digit_count.ensures.least c.digit_count-2.ensures.above c.digit_count-2.ensures.least
-      (ap (λ (k : ℕ). c.digit_count.result + k) c.raised.ensures.value) (ap (λ (k : ℕ). c.digit_count-2.result + k) c.raised-2.ensures.value) apart
+    c.digit_count.ensures.above c.digit_count.ensures.least c.digit_count-2.ensures.above c.digit_count-2.ensures.least
+    (ap (λ (k : ℕ). c.digit_count.result + k) c.raised.ensures.value) (ap (λ (k : ℕ). c.digit_count-2.result + k) c.raised-2.ensures.value) apart
