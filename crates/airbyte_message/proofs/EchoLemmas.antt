@@ -5,7 +5,7 @@ use Rattle.json_scalar.specs.Text.{IsString}
 use Rattle.json_span.specs.Members.{AreMembers, text_at}
 use Rattle.json_span.specs.declared.Member.{Member}
 use Rattle.json_fields.specs.Fields.{IsNamed, line_depth}
-use Rattle.airbyte_message.specs.Parts.{NestsWithin}
+use Rattle.json_fields.specs.Parts.{NestsWithin}
 use Rattle.airbyte_message.specs.States.{state_depth}
 use Rattle.airbyte_message.specs.Echo.{Without, PushesKept, member_text}
 

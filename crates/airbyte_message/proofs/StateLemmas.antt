@@ -8,7 +8,8 @@ use Rattle.json_span.specs.declared.Span.{Span}
 use Rattle.basics.specs.declared.stream.StreamId.{StreamId}
 use Rattle.json_fields.specs.Answer.{IsAnswer, IsOnly}
 use Rattle.json_fields.specs.Fields.{HasField, HasOptional, HasOptionalText, line_depth}
-use Rattle.airbyte_message.specs.Parts.{IsCount, HasDescriptor, IsCutList}
+use Rattle.json_fields.specs.Parts.{IsCount, IsCutList}
+use Rattle.airbyte_message.specs.Parts.{HasDescriptor}
 use Rattle.airbyte_message.specs.States.{IsOptionalCount, IsStats, AreOptionalStats, HasStats, IsStateType, HasStateType, IsStreamBlob, IsStreamState, AreStreamBlobs, HasStreamBlobs, IsGlobalState, IsKind, IsState, state_depth}
 use Rattle.airbyte_message.specs.declared.message.StateMsg.{StateMsg}
 use Rattle.airbyte_message.specs.declared.message.StateKind.{StateKind}
@@ -17,7 +18,7 @@ use Rattle.airbyte_message.specs.declared.message.StreamBlob.{StreamBlob}
 use Rattle.airbyte_message.specs.declared.state_message.StateType.{StateType}
 use Rattle.airbyte_message.specs.declared.state_message.StateType.TheVariants as types
 use Rattle.std.proofs.lemmas.List.{take_more}
-use Rattle.airbyte_message.proofs.AnswerLemmas.{at, both, wrapped}
+use Rattle.json_fields.proofs.AnswerLemmas.{at, both, wrapped}
 
 -- counts that a state may tell
 pub stats_uncut : (text : List ℕ) → ((members : List Member) → ¬ AreMembers line_depth text members) → IsAnswer (IsStats text) None

@@ -4,7 +4,8 @@ use Rattle.json_span.specs.Members.{text_at}
 use Rattle.json_span.specs.Elements.{AreElements}
 use Rattle.json_span.specs.declared.Span.{Span}
 use Rattle.json_fields.specs.Fields.{HasField, HasOptional, HasOptionalText, line_depth}
-use Rattle.airbyte_message.specs.Parts.{IsCount, HasDescriptor, NestsWithin}
+use Rattle.json_fields.specs.Parts.{IsCount, NestsWithin}
+use Rattle.airbyte_message.specs.Parts.{HasDescriptor}
 use Rattle.airbyte_message.specs.declared.message.StateMsg.{StateMsg}
 use Rattle.airbyte_message.specs.declared.message.StateKind.{StateKind}
 use Rattle.airbyte_message.specs.declared.message.StateKind.TheVariants as kind

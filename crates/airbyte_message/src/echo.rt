@@ -3,7 +3,7 @@ ghost use Rattle.std.specs.Prelude.{◌≡◌, ◌≢◌, ◌++◌, All, IfOk, O
 ghost use Rattle.json_span.specs.Members.{IsMemberOf};
 ghost use Rattle.airbyte_message.specs.Echo.{IsEcho, PushesKept, member_text};
 ghost use Rattle.airbyte_message.specs.declared.message.StateKind.TheVariants.{Legacy};
-ghost use Rattle.airbyte_message.specs.Parts.{NestsWithin};
+ghost use Rattle.json_fields.specs.Parts.{NestsWithin};
 ghost use Rattle.airbyte_message.specs.States.{state_depth};
 
 use crate::StateMsg;

@@ -4,7 +4,8 @@ ghost use Rattle.std.specs.Option.{option_copied};
 ghost use Rattle.json_fields.specs.Answer.{IsAnswer};
 ghost use Rattle.json_fields.specs.Fields.{IsCut};
 ghost use Rattle.json_span.specs.Members.{IsValue};
-ghost use Rattle.airbyte_message.specs.Parts.{HasArray, HasCount, HasDescriptor, HasObject, HasOptionalNumber, IsNumber, IsStreamId};
+ghost use Rattle.json_fields.specs.Parts.{HasArray, HasCount, HasObject, HasOptionalNumber, IsNumber};
+ghost use Rattle.airbyte_message.specs.Parts.{HasDescriptor, IsStreamId};
 
 use json_fields::{cut, field, optional, optional_text, text_field};
 use json_span::{MAX_DEPTH, MemberList, is_array, is_object, whole_of};

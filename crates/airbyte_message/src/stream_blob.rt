@@ -5,7 +5,7 @@ ghost use Rattle.json_span.specs.declared.Span.{Span};
 ghost use Rattle.json_fields.specs.Answer.{IsAnswer};
 ghost use Rattle.json_fields.specs.Fields.{IsCut, line_depth};
 ghost use Rattle.airbyte_message.specs.States.{AreStreamBlobs, HasStreamBlobs, IsKind, IsStreamBlob, IsStreamState};
-ghost use Rattle.airbyte_message.specs.Parts.{IsCutList};
+ghost use Rattle.json_fields.specs.Parts.{IsCutList};
 
 use crate::parts::{copied, descriptor_of};
 use crate::state_message::StateType;

@@ -22,8 +22,7 @@ pub fn cut(alloc: Global, text: &[u8], limit: usize) -> Result<Option<MemberList
         Ok(members) => Ok(Some(members)),
         Err(SpanFault::NotObject) => Ok(None),
         Err(SpanFault::TooDeep) => Ok(None),
-        // Members are never refused so.
-        Err(SpanFault::NotArray) => Ok(None),
+        Err(SpanFault::NotArray) => unreachable!(),
         Err(SpanFault::NoMemory) => Err(NoMemory),
     }
 }

@@ -18,7 +18,7 @@ use Rattle.json_span.proofs.First.{first_tells}
 use Rattle.json_span.proofs.ArrayFirst.{first_tells_array}
 use Rattle.json_span.proofs.Theorems.{sound}
 use Rattle.json_span.proofs.ArrayTheorems.{finds_only_array, finds_no_array, finds_deeper_array}
-use Rattle.airbyte_message.proofs.PartLemmas.{IsFirstOfNumber, number_tells}
+use Rattle.json_fields.proofs.PartLemmas.{IsFirstOfNumber, number_tells}
 use Rattle.message_writer.specs.Forms.{IsValueWithin}
 
 -- a number begins with no bracket

@@ -8,8 +8,8 @@ use Rattle.json.specs.Print.{quoted}
 use Rattle.json_span.specs.Members.{IsSomeObject}
 use Rattle.json_span.specs.Elements.{IsSomeArray}
 use Rattle.json_fields.specs.Fields.{HasField, HasOptional, HasText, HasOptionalText, Holds, IsOptionalText, present}
-use Rattle.airbyte_message.specs.Parts.{HasCount, HasObject, HasArray, HasOptionalNumber, IsNumber, IsOptionalNumber}
-use Rattle.airbyte_message.proofs.PartLemmas.{IsFirstOfNumber, number_tells}
+use Rattle.json_fields.specs.Parts.{HasCount, HasObject, HasArray, HasOptionalNumber, IsNumber, IsOptionalNumber}
+use Rattle.json_fields.proofs.PartLemmas.{IsFirstOfNumber, number_tells}
 use Rattle.message_writer.specs.Objects.{Part}
 use Rattle.message_writer.specs.Forms.{IsOptionalUtf8, IsOptionalPart}
 use Rattle.message_writer.proofs.Numerals.{decimal_literal}

@@ -6,7 +6,8 @@ use Rattle.json_span.specs.Members.{IsValue, IsSomeObject}
 use Rattle.json_span.specs.Elements.{IsSomeArray}
 use Rattle.json_fields.specs.Fields.{HasField, HasOptional, HasText, HasOptionalText, Holds, IsOptionalText, present}
 use Rattle.basics.specs.declared.stream.StreamId.{StreamId}
-use Rattle.airbyte_message.specs.Parts.{IsStreamId, NestsWithin, IsOptionalNumber}
+use Rattle.json_fields.specs.Parts.{NestsWithin, IsOptionalNumber}
+use Rattle.airbyte_message.specs.Parts.{IsStreamId}
 use Rattle.airbyte_message.specs.States.{IsState}
 use Rattle.airbyte_message.specs.Traces.{IsTrace, IsTold}
 use Rattle.airbyte_message.specs.Messages.{IsRecord, IsControl, IsPayload}

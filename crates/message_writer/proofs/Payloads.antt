@@ -5,7 +5,8 @@ use Rattle.json.specs.Print.{quoted}
 use Rattle.json.proofs.Printed.Utf8.{IsUtf8-are_ascii}
 use Rattle.json_fields.specs.Fields.{HasText, HasOptionalText, line_depth}
 use Rattle.basics.specs.declared.stream.StreamId.{StreamId}
-use Rattle.airbyte_message.specs.Parts.{IsStreamId, HasDescriptor, IsOptionalNumber}
+use Rattle.json_fields.specs.Parts.{IsOptionalNumber}
+use Rattle.airbyte_message.specs.Parts.{IsStreamId, HasDescriptor}
 use Rattle.airbyte_message.specs.Words.{level_text, failure_text, status_text, connection_text, trace_text, type_text, payload_text}
 use Rattle.airbyte_message.specs.States.{state_depth}
 use Rattle.airbyte_message.specs.Traces.{IsTrace}

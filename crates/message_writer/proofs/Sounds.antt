@@ -10,7 +10,7 @@ use Rattle.json_span.specs.Grammar as json
 use Rattle.json_span.specs.Grammar.{depth}
 use Rattle.json_span.specs.Members.{IsValue, IsSomeObject}
 use Rattle.json_span.specs.Elements.{IsSomeArray}
-use Rattle.airbyte_message.specs.Parts.{IsNumber, IsOptionalNumber, NestsWithin}
+use Rattle.json_fields.specs.Parts.{IsNumber, IsOptionalNumber, NestsWithin}
 use Rattle.message_writer.specs.Objects.{Part, optional}
 use Rattle.message_writer.specs.Forms.{IsValueWithin, IsObjectPart, IsArrayPart, IsOptionalPart, IsOptionalUtf8, part_depth}
 use Rattle.message_writer.proofs.Depths.{object_within, array_within}

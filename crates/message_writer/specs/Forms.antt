@@ -7,7 +7,7 @@ use Rattle.json_span.specs.Elements.{AreElements}
 use Rattle.json_span.specs.declared.Span.{Span}
 use Rattle.json_fields.specs.Fields.{line_depth}
 use Rattle.basics.specs.declared.stream.StreamId.{StreamId}
-use Rattle.airbyte_message.specs.Parts.{IsOptionalNumber, NestsWithin}
+use Rattle.json_fields.specs.Parts.{IsOptionalNumber, NestsWithin}
 use Rattle.airbyte_message.specs.States.{IsState}
 use Rattle.airbyte_message.specs.Traces.{IsTrace}
 use Rattle.airbyte_message.specs.Messages.{IsControl, IsMessage}

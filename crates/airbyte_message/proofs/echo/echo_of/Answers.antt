@@ -1,5 +1,5 @@
 use Rattle.json_fields.specs.Fields.{line_depth}
-use Rattle.airbyte_message.proofs.AnswerLemmas.{uncut}
+use Rattle.json_fields.proofs.AnswerLemmas.{uncut}
 use Rattle.airbyte_message.proofs.EchoLemmas.{state_is_cut}
 use Rattle.airbyte_message.proofs.echo.echo_of.Goals as goal
 

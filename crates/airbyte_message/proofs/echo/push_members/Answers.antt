@@ -1,6 +1,6 @@
 use Rattle.std.proofs.Common.{◌≡◌, ◌<◌, ◌+◌, List, ℕ, ◌++◌, length, take, sym, subst, ◌∙◌, slice_index_or}
 use Rattle.json_span.specs.declared.Member.{Member}
-use Rattle.airbyte_message.proofs.AnswerLemmas.{true_false}
+use Rattle.json_fields.proofs.AnswerLemmas.{true_false}
 use Rattle.airbyte_message.proofs.EchoLemmas.{pushes_dropped, pushes_kept}
 use Rattle.airbyte_message.specs.Echo.{PushesKept, member_text}
 use Rattle.airbyte_message.proofs.echo.push_members.Goals as goal

@@ -2,7 +2,7 @@ use Rattle.std.proofs.Common.{sym, subst}
 use Rattle.json_fields.specs.Answer.{IsAnswer}
 use Rattle.airbyte_message.specs.Messages.{IsPayload}
 use Rattle.airbyte_message.specs.declared.read.MessageType.{MessageType}
-use Rattle.airbyte_message.proofs.AnswerLemmas.{along, mapped}
+use Rattle.json_fields.proofs.AnswerLemmas.{along, mapped}
 use Rattle.airbyte_message.proofs.MessageLemmas.{record_payload, spec_payload, catalog_payload}
 use Rattle.airbyte_message.specs.declared.read.MessageType.TheVariants as types
 use Rattle.airbyte_message.specs.declared.message.Message.TheVariants as message

@@ -4,7 +4,7 @@ use Rattle.std.proofs.lemmas.Result.{IfOk-weaker}
 use Rattle.json_fields.specs.Fields.{HasField, line_depth}
 use Rattle.json_fields.specs.Answer.{IsAnswer}
 use Rattle.airbyte_message.specs.Words.{payload_text}
-use Rattle.airbyte_message.proofs.AnswerLemmas.{along, uncut}
+use Rattle.json_fields.proofs.AnswerLemmas.{along, uncut}
 use Rattle.airbyte_message.proofs.MessageLemmas.{IsLineOf, message_answer, message_absent, message_uncut, message_untyped}
 use Rattle.airbyte_message.proofs.read.read_message.Goals as goal
 

@@ -1,9 +1,10 @@
 use Rattle.std.proofs.Common.{ap, sym, codes}
 use Rattle.std.specs.Option.{option_copied}
 use Rattle.json_fields.specs.Fields.{HasOptional, line_depth}
-use Rattle.airbyte_message.proofs.AnswerLemmas.{along, along_only, uncut}
+use Rattle.json_fields.proofs.AnswerLemmas.{along, along_only, uncut}
 use Rattle.airbyte_message.proofs.MessageLemmas.{record_answer, record_uncut, record_no_id, record_no_body, record_no_time}
-use Rattle.airbyte_message.specs.Parts.{IsStreamId, HasObject, HasCount}
+use Rattle.json_fields.specs.Parts.{HasObject, HasCount}
+use Rattle.airbyte_message.specs.Parts.{IsStreamId}
 use Rattle.airbyte_message.proofs.record_message.record_of.Goals as goal
 
 pub returns-in_default : goal.returns-in_default

@@ -1,10 +1,10 @@
 use Rattle.std.proofs.Common.{ap, codes}
 use Rattle.std.specs.Option.{option_copied}
 use Rattle.json_fields.specs.Fields.{HasOptional, line_depth}
-use Rattle.airbyte_message.proofs.AnswerLemmas.{along, along_only, uncut}
-use Rattle.airbyte_message.proofs.PartLemmas.{count_answer}
+use Rattle.json_fields.proofs.AnswerLemmas.{along, along_only, uncut}
+use Rattle.json_fields.proofs.PartLemmas.{count_answer}
 use Rattle.airbyte_message.proofs.StateLemmas.{stats_absent, stats_told, stats_uncounted, stats_uncut}
-use Rattle.airbyte_message.specs.Parts.{IsCount}
+use Rattle.json_fields.specs.Parts.{IsCount}
 use Rattle.airbyte_message.proofs.state_message.stats_of.Goals as goal
 
 pub returns-in_default : goal.returns-in_default

@@ -1,12 +1,14 @@
 use Rattle.std.proofs.Common.{ap, Err, ◌<◌, arith}
-use Rattle.airbyte_message.proofs.stream_blob.cut_list.Goals as goal
+use Rattle.json_fields.proofs.parts.cut_list.Goals as goal
 
 pub returns-in-Ok-clause-cut : goal.returns-in-Ok-clause-cut
-returns-in-Ok-clause-cut c = record {
-  are = c.in-Ok.ensures.found;
-  only = λ others are. (c.in-Ok.ensures.only are.deep others are.array).1;
-  parts = c.in-Ok.ensures.parts;
-}
+returns-in-Ok-clause-cut c =
+    let found = c.in-Ok.ensures.found in
+    record {
+      are = record { deep = found.deep; within = omega arith; array = found.array };
+      only = λ others are. (c.in-Ok.ensures.only are.deep others are.array).1;
+      parts = c.in-Ok.ensures.parts;
+    }
 
 pub returns-in-Err-NotArray-clause-none : goal.returns-in-Err-NotArray-clause-none
 returns-in-Err-NotArray-clause-none c =
@@ -16,7 +18,4 @@ returns-in-Err-NotArray-clause-none c =
 pub returns-in-Err-TooDeep-clause-none : goal.returns-in-Err-TooDeep-clause-none
 returns-in-Err-TooDeep-clause-none c =
     let deeper = c.in-Err-TooDeep.ensures.too_deep (ap (λ e. Err e) c.in-Err-TooDeep.field-0-is) in
-    λ spans are. let beyond : 127 < are.deep = deeper.deeper are.deep spans are.array in absurd (omega (arith, are.within))
-
-pub returns-in-Err-NotObject-clause-none : goal.returns-in-Err-NotObject-clause-none
-returns-in-Err-NotObject-clause-none c = absurd (c.in-Err-NotObject.ensures.never_not_object (ap (λ e. Err e) c.in-Err-NotObject.field-0-is))
+    λ spans are. let beyond : c.args.limit < are.deep = deeper.deeper are.deep spans are.array in absurd (omega (arith, are.within))

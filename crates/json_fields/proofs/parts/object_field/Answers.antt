@@ -1,9 +1,9 @@
 use Rattle.std.proofs.Common.{◌≡◌, ◌∙◌, sym, ap, true, false}
 use Rattle.std.specs.Option.{option_copied}
 use Rattle.json_fields.specs.Fields.{HasField}
-use Rattle.airbyte_message.proofs.AnswerLemmas.{along}
-use Rattle.airbyte_message.proofs.PartLemmas.{object_yes, object_no, object_absent}
-use Rattle.airbyte_message.proofs.parts.object_field.Goals as goal
+use Rattle.json_fields.proofs.AnswerLemmas.{along}
+use Rattle.json_fields.proofs.PartLemmas.{object_yes, object_no, object_absent}
+use Rattle.json_fields.proofs.parts.object_field.Goals as goal
 
 pub returns-in-Some : goal.returns-in-Some
 returns-in-Some c =

@@ -1,9 +1,9 @@
 use Rattle.std.proofs.Common.{ap, sym, ◌∙◌}
 use Rattle.std.specs.Option.{option_copied}
 use Rattle.json_fields.specs.Fields.{HasOptional}
-use Rattle.airbyte_message.proofs.AnswerLemmas.{along_only, true_false}
-use Rattle.airbyte_message.proofs.PartLemmas.{optional_value, number_yes, number_no, number_absent}
-use Rattle.airbyte_message.proofs.parts.optional_number.Goals as goal
+use Rattle.json_fields.proofs.AnswerLemmas.{along_only, true_false}
+use Rattle.json_fields.proofs.PartLemmas.{optional_value, number_yes, number_no, number_absent}
+use Rattle.json_fields.proofs.parts.optional_number.Goals as goal
 
 pub returns-in-Some : goal.returns-in-Some
 returns-in-Some c =

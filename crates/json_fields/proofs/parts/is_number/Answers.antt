@@ -1,6 +1,6 @@
 use Rattle.std.proofs.Common.{inl, inr, sym, ◌∙◌, get_or, eq-eqb}
-use Rattle.airbyte_message.proofs.PartLemmas.{number_tells, is_number_if, value_not_empty}
-use Rattle.airbyte_message.proofs.parts.is_number.Goals as goal
+use Rattle.json_fields.proofs.PartLemmas.{number_tells, is_number_if, value_not_empty}
+use Rattle.json_fields.proofs.parts.is_number.Goals as goal
 
 pub bounds-value-0 : goal.bounds-value-0
 bounds-value-0 c = value_not_empty c.args.value.now c.requires

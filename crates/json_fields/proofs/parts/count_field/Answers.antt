@@ -1,9 +1,9 @@
 use Rattle.std.proofs.Common.{ap}
 use Rattle.std.specs.Option.{option_copied}
 use Rattle.json_fields.specs.Fields.{HasField}
-use Rattle.airbyte_message.proofs.AnswerLemmas.{along}
-use Rattle.airbyte_message.proofs.PartLemmas.{count_answer, has_count, count_absent}
-use Rattle.airbyte_message.proofs.parts.count_field.Goals as goal
+use Rattle.json_fields.proofs.AnswerLemmas.{along}
+use Rattle.json_fields.proofs.PartLemmas.{count_answer, has_count, count_absent}
+use Rattle.json_fields.proofs.parts.count_field.Goals as goal
 
 pub returns-in-Some : goal.returns-in-Some
 returns-in-Some c =
