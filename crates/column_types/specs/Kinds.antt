@@ -1,5 +1,5 @@
 -- What kind of column a property of a JSON Schema makes, by its `type`, `format` and `airbyte_type`.
-use Rattle.std.specs.Prelude.{◌≡◌, ◌⊎◌, ℕ, List, codes}
+use Rattle.std.specs.Prelude.{◌≡◌, ◌≢◌, ◌⊎◌, ℕ, List, codes}
 use Rattle.std.specs.List.{All, Any}
 use Rattle.json_scalar.specs.Text.{IsString}
 use Rattle.json_span.specs.Members.{text_at}
@@ -8,6 +8,12 @@ use Rattle.json_span.specs.declared.Span.{Span}
 use Rattle.json_fields.specs.Fields.{HasField, HasText, line_depth}
 use Rattle.column_types.specs.declared.kind.ColumnType.{ColumnType}
 use Rattle.column_types.specs.declared.kind.ColumnType.TheVariants as kinds
+
+-- a string other than `null`
+pub record IsOtherWord (text : List ℕ) : Type 0 where
+  pub word : List ℕ
+  pub string : IsString text word
+  pub other : word ≢ codes "null"
 
 -- An array in which this word stands, and no other string but `null`. What is no string is not read.
 pub record IsListOf (text word : List ℕ) : Type 0 where

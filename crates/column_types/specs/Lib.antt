@@ -6,3 +6,4 @@ pub mod Instants
 pub mod Values
 pub mod RawId
 pub mod Rows
+pub mod Words

@@ -2,9 +2,14 @@
 #![tactic(auto)]
 
 mod column;
+mod instant;
 mod kind;
+mod number;
+mod property;
 mod typed;
+mod value;
 
 pub use column::Column;
 pub use kind::ColumnType;
 pub use typed::Typed;
+pub use value::{value_in, value_of};
