@@ -1,7 +1,7 @@
 -- The columns of a stream: the properties of its JSON Schema, in order. Of a repeated name only the last stands, at its
 -- own place.
-use Rattle.std.specs.Prelude.{◌≡◌, ◌⊎◌, ℕ, List, [], ◌∷◌, codes, Bool, true, false, ◌&&◌}
-use Rattle.std.specs.List.{Any, list_any}
+use Rattle.std.specs.Prelude.{◌≡◌, ◌⊎◌, ℕ, List, [], ◌∷◌, codes, Bool, true, false, ◌&&◌, if◌then◌else◌}
+use Rattle.std.specs.List.{list_any}
 use Rattle.std.specs.Str.{bytes_eq}
 use Rattle.json_scalar.specs.Text.{IsString}
 use Rattle.json_span.specs.Members.{AreMembers, text_at}
@@ -17,12 +17,13 @@ pub record IsColumnOf (text : List ℕ) (member : Member) (column : Column) : Ty
   pub name : IsString (text_at text member.key) column.name
   pub kind : IsKind (text_at text member.value) column.kind
 
-abbrev pub HasName : List ℕ → List Column → Type 0
-HasName name columns = Any (λ column. column.name ≡ name) columns
+-- whether one of the columns has this name
+abbrev pub has_name : List ℕ → List Column → Bool
+has_name name columns = list_any (λ column. bytes_eq column.name name) columns
 
 -- a property's column stands in front of the later ones, where none of them has its name
 abbrev pub IsAddedTo : List Column → Column → List Column → Type 0
-IsAddedTo later column columns = (HasName column.name later × (columns ≡ later)) ⊎ ((¬ HasName column.name later) × (columns ≡ column ∷ later))
+IsAddedTo later column columns = columns ≡ (if has_name column.name later then later else column ∷ later)
 
 -- the columns of these properties
 abbrev pub ListsColumns : List ℕ → List Member → List Column → Type 0

@@ -1,10 +1,10 @@
 -- Which texts are instants. What `jiff` reads as a timestamp is taken as it is: this is the one place that says so.
 use Rattle.std.specs.Prelude.{ℕ, ℤ, List, Option, None, Bool, true, false}
 use Rattle.std.specs.Result.{result_ok}
-use Rattle.jiff_fmt.specs.Temporal.{parse_timestamp}
+use Rattle.jiff.specs.Words.{parse_timestamp}
 
 -- the nanoseconds since 1970 of a text that is an instant
-abbrev pub read_instant : List ℕ → Option ℤ
+unfoldable pub read_instant : List ℕ → Option ℤ
 read_instant text = result_ok (parse_timestamp text)
 
 -- the same where instants are looked for, and none elsewhere

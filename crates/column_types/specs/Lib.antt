@@ -7,3 +7,4 @@ pub mod Values
 pub mod RawId
 pub mod Rows
 pub mod Words
+pub mod Ways

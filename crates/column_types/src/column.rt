@@ -1,6 +1,6 @@
 // A column.
 use crate::ColumnType;
-use basics::Name;
+use basics::{Name, Sequence};
 
 /// A column of a stream.
 #[derive(Debug, Drop)]
@@ -8,3 +8,6 @@ pub struct Column {
     pub name: Name,
     pub kind: ColumnType,
 }
+
+/// Columns in order.
+pub type Columns = Sequence<Column>;

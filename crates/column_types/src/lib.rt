@@ -2,6 +2,7 @@
 #![tactic(auto)]
 
 mod column;
+mod columns;
 mod instant;
 mod kind;
 mod number;
@@ -9,7 +10,8 @@ mod property;
 mod typed;
 mod value;
 
-pub use column::Column;
+pub use column::{Column, Columns};
+pub use columns::{columns_of, is_instant};
 pub use kind::ColumnType;
-pub use typed::Typed;
+pub use typed::{Typed, Way, type_value, way_of};
 pub use value::{value_in, value_of};
