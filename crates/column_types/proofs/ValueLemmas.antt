@@ -15,7 +15,11 @@ use Rattle.json_squeeze.specs.Squeeze.{squeezed}
 use Rattle.value_order.specs.declared.value.Value.{Value}
 use Rattle.value_order.specs.declared.value.Value.TheVariants.{Null, Other}
 use Rattle.column_types.specs.Values.{HasValue, Reaches}
+use Rattle.column_types.specs.Typed.{IsSomeString}
 use Rattle.column_types.specs.Words.{IsWord, IsValueAlong}
+use Rattle.json_fields.proofs.PartLemmas.{number_tells}
+use Rattle.std.specs.Char.{is_ascii_digit}
+use Rattle.std.proofs.lemmas.Bool.{true≢false}
 use Rattle.std.proofs.lemmas.List.{drop_all}
 
 pub not_true : IsTrue false → ⊥
@@ -90,3 +94,27 @@ no_data body path instants none = record { found = None; stands = inr (λ is. no
 pub no_length : (names : List (List ℕ)) → length names ≡ 0 → names ≡ []
 no_length [] none = refl
 no_length (name ∷ names) none = absurd (omega arith)
+
+-- a string begins with a quotation mark, and nothing else does
+pub string_first : (text : List ℕ) → IsValue text → get_or text 0 0 ≡ 34 → IsSomeString text
+string_first text is first = go is.value is.spelled
+  where
+    other : (n : ℕ) → get_or text 0 0 ≡ n → n ≢ 34 → IsSomeString text
+    other n e apart = absurd (apart (sym e ∙ first))
+
+    go : (v : json.Value) → text ≡ value_text v → IsSomeString text
+    go json.null e = other 110 (ap (λ (t : List ℕ). get_or t 0 0) e) (λ h. omega (arith, h))
+    go json.yes e = other 116 (ap (λ (t : List ℕ). get_or t 0 0) e) (λ h. omega (arith, h))
+    go json.no e = other 102 (ap (λ (t : List ℕ). get_or t 0 0) e) (λ h. omega (arith, h))
+    go (json.number literal) e = elim (number_tells text (record { literal = literal; spelled = e })) [
+      | inl minus ↦ other 45 minus (λ h. omega (arith, h))
+      | inr digit ↦ absurd (true≢false (sym digit ∙ ap is_ascii_digit first))
+    ]
+    go (json.string pieces) e = record { meaning = flat_map piece_meaning pieces; string = record { utf8 = is.utf8; pieces = pieces; spelled = e; means = refl } }
+    go (json.empty_array spaces) e = other 91 (ap (λ (t : List ℕ). get_or t 0 0) e) (λ h. omega (arith, h))
+    go (json.array before v after items) e = other 91 (ap (λ (t : List ℕ). get_or t 0 0) e) (λ h. omega (arith, h))
+    go (json.empty_object spaces) e = other 123 (ap (λ (t : List ℕ). get_or t 0 0) e) (λ h. omega (arith, h))
+    go (json.object before key behind ahead v after members) e = other 123 (ap (λ (t : List ℕ). get_or t 0 0) e) (λ h. omega (arith, h))
+
+pub string_begins : (text : List ℕ) → IsSomeString text → get_or text 0 0 ≡ 34
+string_begins text is = ap (λ (t : List ℕ). get_or t 0 0) is.string.spelled
