@@ -7,3 +7,4 @@ pub mod Contents
 mod Lexing
 mod Plain
 mod Decoded
+pub mod WideLemmas

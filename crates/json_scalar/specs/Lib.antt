@@ -5,3 +5,5 @@ pub mod Form
 pub mod Digits
 pub mod Parts
 pub mod Seen
+pub mod Decimal
+pub mod Wide

@@ -49,16 +49,16 @@ fn plain_digits(text: &[u8]) -> Option<u64>
 
 // The parts of a number's text.
 #[derive(Clone, Copy)]
-struct Parts<'a> {
-    is_negative: bool,
+pub struct Parts<'a> {
+    pub is_negative: bool,
 
     // The digits before the point, and those behind it.
-    whole: &'a [u8],
-    fraction: &'a [u8],
+    pub whole: &'a [u8],
+    pub fraction: &'a [u8],
 
     // Whether the exponent has a minus, and its digits.
-    lowers: bool,
-    exponent: &'a [u8],
+    pub lowers: bool,
+    pub exponent: &'a [u8],
 }
 
 // Whether the text begins with the byte, and what follows the byte if so.
@@ -131,7 +131,7 @@ impl Parts<'_> {
     ghost use Rattle.json_scalar.specs.Seen.{cut_of};
 
     // The parts of a text that is a number.
-    fn of(text: &[u8]) -> Option<Parts<'_>>
+    pub fn of(text: &[u8]) -> Option<Parts<'_>>
         ensures { option_map cut_of result ≡ cut text.now }
     {
         let (is_negative, unsigned) = without_byte(text, b'-');
@@ -264,7 +264,7 @@ fn times_power(number: u64, power: u128) -> Option<u64>
 }
 
 // The number that the digits spell, or some number that is not below the cap where that is not either.
-fn capped_exponent(digits: &[u8]) -> u128
+pub fn capped_exponent(digits: &[u8]) -> u128
     requires { AreDigits digits.now }
     ensures capped { IsCapped result (spelled digits.now) }
     ensures room { result < 2 ^ 70 }
