@@ -1,5 +1,5 @@
 -- Types of properties: one word alone.
-use Rattle.std.proofs.Common.{◌≡◌, ◌≢◌, ◌⊎◌, ◌↔◌, inl, inr, ℕ, zero, suc, ◌+◌, ◌<◌, ◌≤◌, List, [], ◌∷◌, length, take, slice_index_or, Bool, true, false, not, IsTrue, refl, sym, ap, ◌∙◌, subst, codes, rules}
+use Rattle.std.proofs.Common.{◌≡◌, ◌⊎◌, ◌↔◌, inl, inr, ℕ, zero, suc, ◌+◌, ◌<◌, ◌≤◌, List, [], ◌∷◌, length, take, slice_index_or, Bool, true, false, not, IsTrue, refl, sym, ◌∙◌, subst, codes, rules}
 use Rattle.std.specs.List.{All, Any}
 use Rattle.std.specs.Bool.{Decides}
 use Rattle.std.specs.Str.{bytes_eq}

@@ -1,5 +1,5 @@
 -- The decimal of a literal, in either form.
-use Rattle.std.proofs.Common.{◌≡◌, ◌≢◌, ◌⊎◌, inl, inr, ℕ, zero, suc, ◌+◌, ◌*◌, ◌%◌, ◌^◌, ◌<◌, ◌≤◌, ℤ, pos, negsuc, ◌≤ℤ◌, Bool, List, length, refl, sym, ap, ◌∙◌, subst, arith}
+use Rattle.std.proofs.Common.{◌≡◌, ◌⊎◌, inl, inr, ℕ, ◌+◌, ◌*◌, ◌%◌, ◌^◌, ◌≤◌, ℤ, pos, negsuc, ◌≤ℤ◌, List, length, refl, sym, ap, ◌∙◌, arith}
 use Rattle.std.proofs.lemmas.Int.{ints}
 use Rattle.json_scalar.specs.Number.{mantissa, raised, lowered, fraction_digits}
 use Rattle.json_scalar.specs.Decimal.{IsDecimal, IsNormal, IsNought}
@@ -22,8 +22,8 @@ decimal_to_number text p d same is = record {
   spelled = is.spelled;
   sign = λ some. same.sign ∙ is.value.sign some;
   equal =
-    ap (λ (k : ℕ). mantissa is.literal * 10 ^ (raised is.literal.exponent + k)) same.lowered ∙ is.value.equal
-    ∙ sym (λ i. same.digits i * 10 ^ (same.raised i + (length (fraction_digits is.literal.fraction) + lowered is.literal.exponent)));
+      ap (λ (k : ℕ). mantissa is.literal * 10 ^ (raised is.literal.exponent + k)) same.lowered ∙ is.value.equal
+      ∙ sym (λ i. same.digits i * 10 ^ (same.raised i + (length (fraction_digits is.literal.fraction) + lowered is.literal.exponent)));
 }
 
 raised_small : (e : ℤ) → e ≤ℤ pos 400 → raised_by e ≤ 400
@@ -64,9 +64,9 @@ same_exponent (negsuc m) (pos n) p q = absurd (omega arith)
 pub same_converted : (p : LiteralDecimal) (d other : Decimal) → IsConverted p d → parts_of other ≡ p → other ≡ d
 same_converted p d other same e =
     same_decimal other d
-      (ap (λ (x : LiteralDecimal). x.is_negative) e ∙ sym same.sign)
-      (ap (λ (x : LiteralDecimal). x.digits) e ∙ sym same.digits)
-      (same_exponent other.exponent d.exponent (ap (λ (x : LiteralDecimal). x.raised) e ∙ sym same.raised) (ap (λ (x : LiteralDecimal). x.lowered) e ∙ sym same.lowered))
+    (ap (λ (x : LiteralDecimal). x.is_negative) e ∙ sym same.sign)
+    (ap (λ (x : LiteralDecimal). x.digits) e ∙ sym same.digits)
+    (same_exponent other.exponent d.exponent (ap (λ (x : LiteralDecimal). x.raised) e ∙ sym same.raised) (ap (λ (x : LiteralDecimal). x.lowered) e ∙ sym same.lowered))
 
 -- a decimal with the parts of a normal one is normal
 pub converted_normal : (p : LiteralDecimal) (exponent : ℤ) → IsNormal p → raised_by exponent ≡ p.raised → lowered_by exponent ≡ p.lowered → value_order.IsNormal p.is_negative p.digits exponent

@@ -1,5 +1,5 @@
 -- Values by the forms of their texts, and steps along a path.
-use Rattle.std.proofs.Common.{◌≡◌, ◌≢◌, ◌⊎◌, inl, inr, ℕ, zero, suc, ◌+◌, ◌<◌, ◌≤◌, List, [], ◌∷◌, length, get_or, drop, flat_map, Option, None, Some, Bool, true, false, IsTrue, refl, sym, ap, ◌∙◌, subst, codes, rules, arith, add-one, drop-cons}
+use Rattle.std.proofs.Common.{◌≡◌, ◌≢◌, inl, inr, ℕ, ◌+◌, ◌<◌, ◌≤◌, List, [], ◌∷◌, length, get_or, drop, flat_map, Option, None, Some, Bool, false, IsTrue, refl, sym, ap, ◌∙◌, subst, rules, arith, add-one, drop-cons}
 use Rattle.json_scalar.specs.Text.{IsString, piece_meaning}
 use Rattle.json_span.specs.Grammar as json
 use Rattle.json_span.specs.Grammar.{value_text}
@@ -8,7 +8,6 @@ use Rattle.json_span.specs.Elements.{IsSomeArray}
 use Rattle.json_span.specs.declared.Member.{Member}
 use Rattle.json_span.proofs.First.{first_tells}
 use Rattle.json_span.proofs.ArrayFirst.{first_tells_array}
-use Rattle.json_fields.specs.Answer.{IsOnly, IsAnswer}
 use Rattle.json_fields.specs.Fields.{HasField, line_depth}
 use Rattle.json_fields.specs.Parts.{IsNumber}
 use Rattle.json_squeeze.specs.Squeeze.{squeezed}

@@ -1,14 +1,13 @@
 -- Whole numbers as decimals.
-use Rattle.std.proofs.Common.{◌≡◌, ◌≢◌, ◌⊎◌, inl, inr, ℕ, zero, suc, ◌+◌, ◌-◌, ◌*◌, ◌/◌, ◌%◌, ◌^◌, ◌<◌, ◌≤◌, ℤ, pos, negsuc, neg_ℤ, ◌≤ℤ◌, Bool, true, false, List, length, refl, sym, ap, ◌∙◌, subst, arith, rules}
+use Rattle.std.proofs.Common.{◌≡◌, ◌≢◌, inl, inr, ℕ, zero, suc, ◌+◌, ◌*◌, ◌/◌, ◌%◌, ◌^◌, ◌<◌, ◌≤◌, ℤ, pos, negsuc, Bool, true, false, List, length, refl, sym, ap, ◌∙◌, subst, arith, rules}
 use Rattle.std.specs.Prelude.{FitsSigned}
 use Rattle.std.specs.Int.{w64}
 use Rattle.std.proofs.lemmas.Bool.{cases_eq, cases_lt}
 use Rattle.std.proofs.lemmas.Int.{ints}
 use Rattle.std.proofs.lemmas.Nat.{pow-add}
 use Rattle.std.proofs.Math.Nat.{mul-le-mul_left, mul-le-mul_right}
-use Rattle.json_scalar.specs.Number.{Literal, literal_text, mantissa, raised, lowered, fraction_digits}
+use Rattle.json_scalar.specs.Number.{mantissa, raised, lowered, fraction_digits}
 use Rattle.value_order.specs.Order.{signed}
-use Rattle.value_order.specs.Normal.{IsNormal}
 use Rattle.value_order.specs.declared.decimal.Decimal.{Decimal}
 use Rattle.value_order.proofs.SizeLemmas.{ten_power, power_up_to}
 use Rattle.column_types.specs.Numbers.{IsInteger, IsNumberOf, raised_by, lowered_by}

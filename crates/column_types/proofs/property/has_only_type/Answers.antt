@@ -1,7 +1,5 @@
-use Rattle.std.proofs.Common.{◌≡◌, ◌⊎◌, ◌↔◌, IsTrue, Bool, codes}
 use Rattle.std.proofs.lemmas.Result.{IfOk-weaker}
-use Rattle.json_scalar.specs.Text.{IsString}
-use Rattle.column_types.specs.Kinds.{HasOnlyType, IsListOf}
+use Rattle.column_types.specs.Kinds.{HasOnlyType}
 use Rattle.column_types.proofs.KindLemmas.{never, only_type}
 use Rattle.column_types.proofs.property.has_only_type.Goals as goal
 

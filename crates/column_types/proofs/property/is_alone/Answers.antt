@@ -1,4 +1,4 @@
-use Rattle.std.proofs.Common.{◌≡◌, ◌⊎◌}
+use Rattle.std.proofs.Common.{◌⊎◌}
 use Rattle.json_scalar.specs.Text.{IsString}
 use Rattle.column_types.specs.Kinds.{IsListOf}
 use Rattle.column_types.proofs.KindLemmas.{never, not_alone}

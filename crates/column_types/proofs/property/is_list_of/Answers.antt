@@ -1,4 +1,4 @@
-use Rattle.std.proofs.Common.{◌≡◌, ◌∙◌, sym, subst, List, ℕ, Bool, slice_index_or, ◌+◌}
+use Rattle.std.proofs.Common.{sym, subst, List, ℕ, Bool, slice_index_or, ◌+◌}
 use Rattle.json_scalar.specs.Text.{IsString}
 use Rattle.json_span.specs.Members.{text_at}
 use Rattle.column_types.specs.Kinds.{IsListOf, IsOtherWord}

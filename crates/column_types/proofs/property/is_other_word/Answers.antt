@@ -1,4 +1,3 @@
-use Rattle.std.proofs.Common.{◌≡◌, ◌∙◌, List, ℕ, subst, codes, rules}
 use Rattle.column_types.proofs.KindLemmas.{never, other_word}
 use Rattle.column_types.specs.Kinds.{IsOtherWord}
 use Rattle.column_types.proofs.property.is_other_word.Goals as goal

@@ -1,4 +1,4 @@
-use Rattle.std.proofs.Common.{◌≡◌, codes}
+use Rattle.std.proofs.Common.{codes}
 use Rattle.column_types.proofs.KindLemmas.{no_object_type}
 use Rattle.column_types.proofs.property.kind_of.Goals as goal
 

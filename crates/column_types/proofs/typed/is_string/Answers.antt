@@ -1,4 +1,4 @@
-use Rattle.std.proofs.Common.{get_or, eq-eqb, rules}
+use Rattle.std.proofs.Common.{get_or, eq-eqb}
 use Rattle.json_span.proofs.Classes.{equal}
 use Rattle.json_span.proofs.First.{not_empty}
 use Rattle.column_types.proofs.ValueLemmas.{string_first, string_begins}

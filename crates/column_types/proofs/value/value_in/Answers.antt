@@ -1,5 +1,5 @@
-use Rattle.std.proofs.Common.{◌≡◌, ◌∙◌, List, ℕ, ◌∷◌, sym, ap}
-use Rattle.column_types.proofs.ValueLemmas.{root_walked, root_field, root_itself, no_length}
+use Rattle.std.proofs.Common.{◌∙◌, List, ℕ, ◌∷◌, sym, ap}
+use Rattle.column_types.proofs.ValueLemmas.{root_walked, root_itself, no_length}
 use Rattle.column_types.proofs.value.value_in.Goals as goal
 
 pub returns-in-None-2 : goal.returns-in-None-2
