@@ -1,6 +1,6 @@
 use Rattle.std.proofs.Common.{◌≡◌, ◌++◌, take}
 use Rattle.worker_run.specs.Output.{shown}
-use Rattle.worker_run.proofs.heard.push_shown.Given as goal
+use Rattle.worker_run.proofs.lines.push_shown.Given as goal
 
 -- the bytes so far stand behind the line
 abbrev pub invariant-loop-byte : goal.invariant-loop-byte
