@@ -35,7 +35,7 @@ pub record HasProperties (schema held : List ℕ) (members : List Member) : Type
   pub field : HasField schema (codes "properties") held
   pub object : AreMembers line_depth held members
 
--- the columns of a schema, none where it has no properties
+-- the columns of a schema, none where it has no properties, or nests deeper than a line can
 abbrev pub AreColumns : List ℕ → List Column → Type 0
 AreColumns schema columns =
     ((held : List ℕ) × (members : List Member) × HasProperties schema held members × ListsColumns held members columns)

@@ -1,4 +1,5 @@
--- Which texts are instants. What `jiff` reads as a timestamp is taken as it is: this is the one place that says so.
+-- Which texts are instants. What the kit's `jiff` reads as a timestamp is taken as it is: this is the one place that says
+-- so. That it reads what others read is a premise.
 use Rattle.std.specs.Prelude.{ℕ, ℤ, List, Option, None, Bool, true, false}
 use Rattle.std.specs.Result.{result_ok}
 use Rattle.jiff.specs.Words.{parse_timestamp}

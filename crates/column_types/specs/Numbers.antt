@@ -22,7 +22,7 @@ pub record IsNumberOf (text : List ℕ) (d : Decimal) : Type 0 where
   pub sign : mantissa literal ≢ 0 → d.negative ≡ literal.is_negative
   pub equal : mantissa literal * 10 ^ (raised literal.exponent + lowered_by d.exponent) ≡ d.digits * 10 ^ (raised_by d.exponent + (length (fraction_digits literal.fraction) + lowered literal.exponent))
 
--- a JSON number that no decimal has as its value: more than 38 digits in normal form, or an exponent beyond 400
+-- a JSON number that no decimal has as its value: more than 38 digits in normal form, or an exponent above 400 or below -400
 pub record IsLongNumber (text : List ℕ) : Type 0 where
   pub number : IsNumber text
   pub long : (d : Decimal) → ¬ IsNumberOf text d

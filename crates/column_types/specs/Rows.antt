@@ -1,7 +1,7 @@
 -- The row of a record, over plain parts.
 use Rattle.std.specs.Prelude.{◌≡◌, ◌⊎◌, ℕ, List, [], ◌∷◌, ◌++◌, map, codes, Option, None, Some}
-use Rattle.std.specs.List.{join_with_byte}
 use Rattle.json.specs.Print.{quoted}
+use Rattle.json_write.specs.Objects.{Part, named, object_text, list_text}
 use Rattle.json_span.specs.Members.{text_at}
 use Rattle.json_span.specs.Elements.{AreElements}
 use Rattle.json_span.specs.declared.Span.{Span}
@@ -51,17 +51,18 @@ abbrev pub cell_text : Typed → List ℕ
 cell_text (Fits written) = written
 cell_text Nulled = codes "null"
 
--- each column's name and text
-abbrev pub cell_members : List Column → List Typed → List (List ℕ)
-cell_members (column ∷ columns) (cell ∷ cells) = (quoted column.name ++ 58 ∷ cell_text cell) ∷ cell_members columns cells
-cell_members _ _ = []
+-- each column's name and text, as members
+abbrev pub cell_parts : List Column → List Typed → List Part
+cell_parts (column ∷ columns) (cell ∷ cells) = named column.name (cell_text cell) ∷ cell_parts columns cells
+cell_parts _ _ = []
 
 abbrev pub columns_text : List Column → List Typed → List ℕ
-columns_text columns cells = 123 ∷ (join_with_byte 44 (cell_members columns cells) ++ 125 ∷ [])
+columns_text columns cells = object_text (cell_parts columns cells)
 
 -- the change that a nulled value is
 abbrev pub change_text : List ℕ → List ℕ
-change_text name = codes "{\"field\":" ++ (quoted name ++ codes ",\"change\":\"NULLED\",\"reason\":\"DESTINATION_TYPECAST_ERROR\"}")
+change_text name =
+    object_text (named (codes "field") (quoted name) ∷ named (codes "change") (codes "\"NULLED\"") ∷ named (codes "reason") (codes "\"DESTINATION_TYPECAST_ERROR\"") ∷ [])
 
 -- those of a row, in the order of its columns
 abbrev pub own_changes : List Column → List Typed → List (List ℕ)
@@ -82,7 +83,7 @@ CameWith (Some meta) changes =
     ⊎ (((held : List ℕ) (spans : List Span) → ¬ HasChanges meta held spans) × (changes ≡ []))
 
 abbrev pub meta_text : List (List ℕ) → List ℕ
-meta_text changes = codes "{\"changes\":[" ++ (join_with_byte 44 changes ++ codes "]}")
+meta_text changes = object_text (named (codes "changes") (list_text changes) ∷ [])
 
 -- the values at the paths of a key, each with a semicolon behind it
 abbrev pub IsKeyText : List ℕ → List Column → List (List (List ℕ)) → List ℕ → Type 0

@@ -22,7 +22,7 @@ pub record IsInstantOf (instants : Bool) (text : List ℕ) (nanoseconds : ℤ) :
   pub string : IsString text name
   pub instant : instant_where instants name ≡ Some nanoseconds
 
--- an array, an object, or a number that is too long
+-- an array, an object, or a number that no decimal is
 abbrev pub IsOther : List ℕ → Type 0
 IsOther text = IsSomeArray text ⊎ (IsSomeObject text ⊎ IsLongNumber text)
 
@@ -49,7 +49,8 @@ pub record IsData (text : List ℕ) : Type 0 where
   pub members : List Member
   pub object : AreMembers line_depth text members
 
--- what stands at a path in a record's data, which is an object
+-- What stands at a path in a record's data: nothing where the data is no object, or nests deeper than a line can. At the
+-- empty path stands the data.
 abbrev pub StandsAt : List ℕ → List (List ℕ) → Option (List ℕ) → Type 0
 StandsAt body path found = (IsData body × Reaches body path found) ⊎ ((¬ IsData body) × (found ≡ None))
 
