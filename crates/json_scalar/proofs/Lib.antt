@@ -2,9 +2,9 @@ mod Options
 mod Powers
 mod Spellings
 mod Cuts
-pub mod Values
-pub mod Contents
+mod Values
+mod Contents
 mod Lexing
-pub mod Plain
+mod Plain
 mod Decoded
 mod Decimals
