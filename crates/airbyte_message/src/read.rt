@@ -37,6 +37,22 @@ pub enum MessageType {
 }
 
 impl MessageType {
+    /// The type's name in a line.
+    pub fn text(self) -> &'static str
+        ensures { result.now ≡ type_text self }
+    {
+        match self {
+            MessageType::Rec => "RECORD",
+            MessageType::State => "STATE",
+            MessageType::Log => "LOG",
+            MessageType::Spec => "SPEC",
+            MessageType::Connection => "CONNECTION_STATUS",
+            MessageType::Catalog => "CATALOG",
+            MessageType::Trace => "TRACE",
+            MessageType::Control => "CONTROL",
+        }
+    }
+
     /// The name of the member that holds what a line of this type tells.
     pub fn payload(self) -> &'static str
         ensures text { result.now ≡ payload_text self }
@@ -87,11 +103,7 @@ fn type_named(text: &str) -> Option<MessageType>
 }
 
 // The member `type` of a line.
-fn type_in(
-    alloc: Global,
-    line: &[u8],
-    members: &[Member],
-) -> Result<Option<MessageType>, NoMemory>
+fn type_in(alloc: Global, line: &[u8], members: &[Member]) -> Result<Option<MessageType>, NoMemory>
     requires { IsCut line.now members.now }
     ensures { IfOk result (IsAnswer (λ type. HasText line.now (codes "type") (type_text type))) }
 {
