@@ -2,7 +2,7 @@
 # Times the readers of lines over seven shapes of lines, beside Python's json.loads: MB/s, and instructions a byte
 # where valgrind is there.
 #
-# usage: bench/reading.sh [CALL..]      (without CALL: members and deep)
+# usage: bench/reading.sh [CALL..]      (without CALL: members, deep, read_view and read_message)
 #
 # The program is crates/reading_bench/out/reading_bench, or the one that PROGRAM names. SIZE is how many bytes of lines
 # are made of each shape (4,000,000), ROUNDS how often they are read (20).
@@ -17,7 +17,7 @@ size=${SIZE:-4000000}
 rounds=${ROUNDS:-20}
 calls=("$@")
 if [ ${#calls[@]} = 0 ]; then
-    calls=(members deep)
+    calls=(members deep read_view read_message)
 fi
 folder=$(mktemp -d)
 trap 'rm -rf "$folder"' EXIT

@@ -1,5 +1,5 @@
 -- Values that nest little: texts, numbers, objects and arrays.
-use Rattle.std.proofs.Common.{ℕ, ◌+◌, ◌<◌, ◌≤◌, ◌^◌, Bool, true, false, List, [], ◌∷◌, ◌++◌, Option, None, Some, IsUtf8, refl, sym, subst, arith}
+use Rattle.std.proofs.Common.{◌≡◌, ℕ, ◌+◌, ◌<◌, ◌≤◌, ◌^◌, Bool, true, false, List, [], ◌∷◌, ◌++◌, Option, None, Some, option_map, IsUtf8, refl, sym, subst, arith}
 use Rattle.std.specs.Prelude.{if◌then◌else◌, decimal}
 use Rattle.std.proofs.lemmas.Bool.{lt-ltb}
 use Rattle.std.proofs.lemmas.Str.{IsUtf8-append, IsUtf8-nil}
@@ -8,8 +8,8 @@ use Rattle.json_scalar.specs.Number.{Digit, Digits, Sign, unsigned, plus, minus,
 use Rattle.json_span.specs.Grammar as json
 use Rattle.json_span.specs.Grammar.{depth}
 use Rattle.json_span.specs.Members.{IsValue}
-use Rattle.json_fields.specs.Parts.{IsNumber, NestsWithin}
-use Rattle.json_write.specs.Values.{IsValueWithin}
+use Rattle.json_fields.specs.Parts.{IsNumber, IsOptionalNumber, NestsWithin}
+use Rattle.json_write.specs.Values.{IsValueWithin, IsOptionalWithin, IsOptionalUtf8}
 use Rattle.json_write.proofs.Depths.{object_within}
 use Rattle.json_write.proofs.Numerals.{decimal_literal}
 use Rattle.json_write.proofs.Strings.{quoted_string, utf8_before}
@@ -68,3 +68,13 @@ decimal_within limit n small = let w = decimal_literal n small in number_within 
 
 pub nested_within : (limit : ℕ) (text : List ℕ) → IsValue text → NestsWithin limit text → IsValueWithin limit text
 nested_within limit text value nests = object_within limit text nests.members value nests.object
+
+-- ---- optional values
+
+pub optional_text_within : (limit : ℕ) (text : Option (List ℕ)) → IsOptionalUtf8 text → IsOptionalWithin limit (option_map quoted text)
+optional_text_within limit None u = tt
+optional_text_within limit (Some text) u = text_within limit text u
+
+pub optional_number_within : (limit : ℕ) (text : Option (List ℕ)) → IsOptionalNumber text → IsOptionalWithin limit text
+optional_number_within limit None number = tt
+optional_number_within limit (Some text) number = number_within limit text number

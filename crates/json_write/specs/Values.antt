@@ -1,5 +1,5 @@
 -- JSON values by how deep they nest.
-use Rattle.std.specs.Prelude.{ℕ, ◌≤◌, List, Option, None, Some}
+use Rattle.std.specs.Prelude.{ℕ, ◌≤◌, List, Option, None, Some, IsUtf8}
 use Rattle.json_span.specs.Grammar.{depth}
 use Rattle.json_span.specs.Members.{IsValue}
 
@@ -12,3 +12,8 @@ pub record IsValueWithin (limit : ℕ) (text : List ℕ) : Type 0 where
 abbrev pub IsOptionalWithin : ℕ → Option (List ℕ) → Type 0
 IsOptionalWithin limit None = Unit {0}
 IsOptionalWithin limit (Some text) = IsValueWithin limit text
+
+-- absent, or a text
+abbrev pub IsOptionalUtf8 : Option (List ℕ) → Type 0
+IsOptionalUtf8 None = Unit {0}
+IsOptionalUtf8 (Some text) = IsUtf8 text

@@ -1,4 +1,5 @@
 // The calls that are timed. A call to be timed too is one more variant, with its name and its loop over the lines.
+use airbyte_message::{Message, MessageReader, MessageView, read_message};
 use basics::NoMemory;
 use json_span::{DeepMembers, SpanFault, members};
 use std::alloc::Global;
@@ -10,6 +11,10 @@ pub enum Call {
     Members,
     /// Its members are cut, and theirs.
     Deep,
+    /// It is read in place, by one reader.
+    ReadView,
+    /// It is read into a message with parts of its own.
+    ReadMessage,
 }
 
 impl Call {
@@ -21,6 +26,12 @@ impl Call {
         if name == "deep" {
             return Some(Call::Deep);
         }
+        if name == "read_view" {
+            return Some(Call::ReadView);
+        }
+        if name == "read_message" {
+            return Some(Call::ReadMessage);
+        }
         None
     }
 
@@ -29,6 +40,8 @@ impl Call {
         match self {
             Call::Members => count_members(alloc, lines),
             Call::Deep => count_deep(alloc, lines),
+            Call::ReadView => count_views(alloc, lines),
+            Call::ReadMessage => count_messages(alloc, lines),
         }
     }
 }
@@ -69,4 +82,30 @@ fn held_by(levels: &DeepMembers) -> u64 {
         count = count.wrapping_add(1).wrapping_add(inner);
     }
     count
+}
+
+// The bytes of the records.
+fn count_views(alloc: Global, lines: &[&[u8]]) -> Result<u64, NoMemory> {
+    let mut reader = MessageReader::new(alloc);
+    let mut count = 0u64;
+    for line in lines {
+        match reader.read(line)? {
+            Some(MessageView::Rec(record)) => count = count.wrapping_add(record.body.len() as u64),
+            Some(_) => count = count.wrapping_add(1),
+            None => (),
+        }
+    }
+    Ok(count)
+}
+
+fn count_messages(alloc: Global, lines: &[&[u8]]) -> Result<u64, NoMemory> {
+    let mut count = 0u64;
+    for line in lines {
+        match read_message(alloc, line)? {
+            Some(Message::Rec(record)) => count = count.wrapping_add(record.body.len() as u64),
+            Some(_) => count = count.wrapping_add(1),
+            None => (),
+        }
+    }
+    Ok(count)
 }
