@@ -1,0 +1,5 @@
+pub mod Saved
+pub mod Changes
+pub mod Texts
+pub mod Store
+pub mod StateLists
