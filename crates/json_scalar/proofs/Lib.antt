@@ -3,7 +3,7 @@ mod Powers
 mod Spellings
 mod Cuts
 mod Values
-mod Contents
+pub mod Contents
 mod Lexing
 mod Plain
 mod Decoded

@@ -1,5 +1,6 @@
 pub mod Elements
 pub mod Grammar
+pub mod Levels
 pub mod Machine
 pub mod Members
 pub mod Table

@@ -1,4 +1,5 @@
 pub mod Depths
+pub mod Fronts
 pub mod HeldValues
 pub mod Lists
 pub mod Meanings

@@ -1,13 +1,11 @@
 -- An array that is written from elements, as a tree of the grammar, and where its elements stand.
-use Rattle.std.proofs.Common.{◌≡◌, ℕ, ◌+◌, ◌<◌, ◌≤◌, List, [], ◌∷◌, ◌++◌, length, map, IsUtf8, refl, sym, ap, ◌∙◌, subst, arith, append_assoc, append-nil, length-append}
+use Rattle.std.proofs.Common.{◌≡◌, ℕ, ◌+◌, ◌≤◌, List, [], ◌∷◌, ◌++◌, length, map, IsUtf8, refl, sym, ap, ◌∙◌, arith, append_assoc, append-nil, length-append}
 use Rattle.std.proofs.lemmas.Str.{IsUtf8-append, IsUtf8-nil}
 use Rattle.json_span.specs.Grammar as json
 use Rattle.json_span.specs.Grammar.{Value, Items, value_text, items_text as tree_text, depth, items_depth, space_text}
 use Rattle.json_span.specs.Members.{text_at}
-use Rattle.json_span.specs.Elements.{AreElements, IsArray, element_at, element_end, elements_from, elements_of}
-use Rattle.json_span.specs.declared.Span.{Span}
+use Rattle.json_span.specs.Elements.{IsArray, element_at, element_end, elements_from, elements_of}
 use Rattle.json_span.proofs.Parts.{part_at as cut_at}
-use Rattle.json_write.specs.Values.{IsValueWithin}
 use Rattle.json_write.specs.Objects.{items_text, list_text}
 use Rattle.json_write.specs.Laws.{AreWithin, IsListOf}
 use Rattle.json_write.proofs.Strings.{utf8_before}
@@ -130,7 +128,7 @@ module _ (limit : ℕ) (item : List ℕ) (items : List (List ℕ)) (s : AreWithi
     value = record { is = record { utf8 = whole_utf8; value = whole; spelled = whole_spelled }; within = whole_within };
     spans = elements_of 0 whole;
     are = record { deep = depth whole; within = whole_within; array = whole_array };
-    items = whole_items;
+    cut = whole_items;
   }
 
 empty_utf8 : IsUtf8 (list_text [])
@@ -145,6 +143,6 @@ list_of limit [] s = record {
     within = omega arith;
     array = record { before = []; value = json.empty_array []; after = []; spells = record { utf8 = empty_utf8; array = tt; spelled = refl }; deepest = refl; places = refl };
   };
-  items = refl;
+  cut = refl;
 }
 list_of limit (item ∷ items) s = whole_is limit item items s

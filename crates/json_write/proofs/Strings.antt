@@ -1,15 +1,17 @@
 -- Texts between quotation marks are JSON strings.
-use Rattle.std.proofs.Common.{◌≡◌, ◌≢◌, ℕ, zero, suc, ◌/◌, ◌%◌, ◌<◌, ◌≤◌, Bool, true, cond, not, ◌&&◌, ◌||◌, ◌==◌, nat_lt, nat_le, List, [], ◌∷◌, ◌++◌, flat_map, IsUtf8, inl, inr, refl, sym, ap, ◌∙◌, subst, arith}
-use Rattle.std.proofs.lemmas.Bool.{and_parts, and_from, cases_eq, cases_lt, ne_eqb, le-leb, lt-ltb, true≢false, eqb-true}
+use Rattle.std.proofs.Common.{◌≡◌, ◌≢◌, ℕ, zero, suc, ◌+◌, ◌-◌, ◌/◌, ◌%◌, ◌<◌, ◌≤◌, Bool, true, cond, not, ◌&&◌, ◌||◌, ◌==◌, nat_lt, nat_le, List, [], ◌∷◌, ◌++◌, flat_map, length, take, drop, get_or, slice_index_or, slice_range, IsUtf8, inl, inr, refl, sym, ap, ◌∙◌, subst, arith, append-nil, length-drop}
+use Rattle.std.proofs.Math.Seq.{take-add}
+use Rattle.std.proofs.lemmas.Bool.{and_parts, and_from, cases_eq, cases_lt, ne_eqb, le-leb, lt-ltb, le-ltb, eqb-true}
 use Rattle.std.proofs.lemmas.Str.{IsUtf8-append, encode_ascii}
-use Rattle.std.proofs.lemmas.List.{append_cancel_right}
+use Rattle.std.proofs.lemmas.List.{append_cancel_right, take_more, get_or-drop}
+use Rattle.std.proofs.lemmas.Grind.{flat_map-append}
 use Rattle.std.specs.Char.{digit_char}
 use Rattle.std.specs.Prelude.{encode_utf8}
 use Rattle.json.specs.Print.{escape, escape_byte, quoted}
 use Rattle.json.specs.Print as print
 use Rattle.json.proofs.Printed.Strings.{escape_byte_plain}
 use Rattle.json.proofs.Printed.Utf8.{IsUtf8-are_ascii, IsUtf8-quoted}
-use Rattle.json_scalar.specs.Text.{Piece, Escape, IsString, escape_meaning, is_plain, are_whole, code_unit, piece_text, piece_meaning, string_text}
+use Rattle.json_scalar.specs.Text.{Piece, Escape, IsString, escape_meaning, are_whole, code_unit, piece_text, piece_meaning}
 use Rattle.json_scalar.specs.Quotes.{in_quotes}
 use Rattle.json_scalar.proofs.Contents.{one_meaning}
 
@@ -147,3 +149,48 @@ quoted_same text other u e =
 
     inside : quoted other ≡ quoted text → escape other ≡ escape text
     inside e = append_cancel_right (escape other) (escape text) (34 ∷ []) (ap tail e)
+
+-- ---- a byte is written
+
+pub escape_lettered : (x : ℕ) → 0 < print.escape_letter x → escape_byte x ≡ 92 ∷ print.escape_letter x ∷ []
+unfolding escape_byte
+escape_lettered x some = ap (λ (b : Bool). cond b (92 ∷ print.escape_letter x ∷ []) (cond (nat_lt x 32) (92 ∷ 117 ∷ 48 ∷ 48 ∷ digit_char (x / 16) ∷ digit_char (x % 16) ∷ []) (x ∷ []))) (lt-ltb 0 (print.escape_letter x) some)
+
+pub escape_control : (x : ℕ) → print.escape_letter x ≡ 0 → x < 32 → escape_byte x ≡ 92 ∷ 117 ∷ 48 ∷ 48 ∷ digit_char (x / 16) ∷ digit_char (x % 16) ∷ []
+unfolding escape_byte
+escape_control x none small = λ i. cond (nat_lt 0 (none i)) (92 ∷ print.escape_letter x ∷ []) (cond (lt-ltb x 32 small i) (92 ∷ 117 ∷ 48 ∷ 48 ∷ digit_char (x / 16) ∷ digit_char (x % 16) ∷ []) (x ∷ []))
+
+pub escape_other : (x : ℕ) → print.escape_letter x ≡ 0 → 32 ≤ x → escape_byte x ≡ x ∷ []
+unfolding escape_byte
+escape_other x none large = λ i. cond (nat_lt 0 (none i)) (92 ∷ print.escape_letter x ∷ []) (cond (le-ltb x 32 large i) (92 ∷ 117 ∷ 48 ∷ 48 ∷ digit_char (x / 16) ∷ digit_char (x % 16) ∷ []) (x ∷ []))
+
+-- ranges of a text
+range_more : (bytes : List ℕ) (from end : ℕ) → from ≤ end → end < length bytes → slice_range bytes from (end + 1) ≡ slice_range bytes from end ++ slice_index_or bytes end 0 ∷ []
+range_more bytes from end after lt =
+    let n = end - from in
+    let size : length (drop from bytes) ≡ length bytes - from = length-drop from bytes in
+    let here : n < length (drop from bytes) = omega arith in
+    let e : end + 1 - from ≡ n + 1 = omega arith in
+    let f : from + n ≡ end = omega arith in
+    ap (λ (k : ℕ). take k (drop from bytes)) e ∙ take_more (drop from bytes) n 0 here ∙ ap (λ (x : ℕ). take n (drop from bytes) ++ x ∷ []) (get_or-drop from bytes n 0 ∙ ap (λ (k : ℕ). get_or bytes k 0) f)
+
+take_range : (bytes : List ℕ) (at end : ℕ) → at ≤ end → take end bytes ≡ take at bytes ++ slice_range bytes at end
+take_range bytes at end after =
+    let e : end ≡ at + (end - at) = omega arith in
+    ap (λ (k : ℕ). take k bytes) e ∙ take-add at (end - at) bytes
+
+-- one more byte that stands for itself
+pub plain_more : (bytes : List ℕ) (from end : ℕ) → from ≤ end → end < length bytes → slice_index_or bytes end 0 ≢ 34 → slice_index_or bytes end 0 ≢ 92 → 32 ≤ slice_index_or bytes end 0 → escape (slice_range bytes from end) ≡ slice_range bytes from end → escape (slice_range bytes from (end + 1)) ≡ slice_range bytes from (end + 1)
+plain_more bytes from end after lt a b large plain =
+    let x = slice_index_or bytes end 0 in
+    let more : slice_range bytes from (end + 1) ≡ slice_range bytes from end ++ x ∷ [] = range_more bytes from end after lt in
+    ap escape more ∙ flat_map-append escape_byte (slice_range bytes from end) (x ∷ []) ∙ (λ i. plain i ++ (escape_byte_plain x a b large i ++ [])) ∙ sym more
+
+-- the bytes up to a place, and those from there on
+pub escape_range : (bytes : List ℕ) (at end : ℕ) → at ≤ end → end ≤ length bytes → escape (slice_range bytes at end) ≡ slice_range bytes at end → escape (take end bytes) ≡ escape (take at bytes) ++ slice_range bytes at end
+escape_range bytes at end after within plain =
+    ap escape (take_range bytes at end after) ∙ flat_map-append escape_byte (take at bytes) (slice_range bytes at end) ∙ ap (λ (l : List ℕ). escape (take at bytes) ++ l) plain
+
+pub escape_more : (bytes : List ℕ) (at : ℕ) → at < length bytes → escape (take (at + 1) bytes) ≡ escape (take at bytes) ++ escape_byte (slice_index_or bytes at 0)
+escape_more bytes at lt =
+    ap escape (take_more bytes at 0 lt) ∙ flat_map-append escape_byte (take at bytes) (slice_index_or bytes at 0 ∷ []) ∙ ap (λ (l : List ℕ). escape (take at bytes) ++ l) (append-nil (escape_byte (slice_index_or bytes at 0)))

@@ -1,13 +1,11 @@
 -- An object that is written from members, as a tree of the grammar, and where its members stand.
-use Rattle.std.proofs.Common.{◌≡◌, ℕ, ◌+◌, ◌<◌, ◌≤◌, List, [], ◌∷◌, ◌++◌, length, map, IsUtf8, refl, sym, ap, ◌∙◌, subst, arith, append_assoc, append-nil, length-append}
+use Rattle.std.proofs.Common.{◌≡◌, ℕ, ◌+◌, ◌≤◌, List, [], ◌∷◌, ◌++◌, length, map, IsUtf8, refl, sym, ap, ◌∙◌, arith, append_assoc, append-nil, length-append}
 use Rattle.std.proofs.lemmas.Str.{IsUtf8-append, IsUtf8-nil}
 use Rattle.json_scalar.specs.Text.{Piece, string_text}
 use Rattle.json_span.specs.Grammar as json
 use Rattle.json_span.specs.Grammar.{Space, Value, Members, value_text, members_text, depth, members_depth, space_text, member_at, member_end, members_from}
-use Rattle.json_span.specs.Members.{AreMembers, IsObject, members_of, text_at}
-use Rattle.json_span.specs.declared.Member.{Member}
+use Rattle.json_span.specs.Members.{IsObject, members_of, text_at}
 use Rattle.json_span.proofs.Parts.{part_at as cut_at}
-use Rattle.json_write.specs.Values.{IsValueWithin}
 use Rattle.json_write.specs.Objects.{Part, part_before, parts_text, object_text}
 use Rattle.json_write.specs.Laws.{IsSound, AreSound, IsObjectOf, part_at}
 use Rattle.json_write.proofs.Strings.{utf8_before}
@@ -185,7 +183,7 @@ module _ (limit : ℕ) (part : Part) (parts : List Part) (s : AreSound limit (pa
     value = record { is = record { utf8 = whole_utf8; value = whole; spelled = whole_spelled }; within = whole_within };
     members = members_of 0 whole;
     are = record { deep = depth whole; within = whole_within; object = whole_object };
-    parts = whole_parts;
+    cut = whole_parts;
   }
 
 empty_utf8 : IsUtf8 (object_text [])
@@ -200,6 +198,6 @@ object_of limit [] s = record {
     within = omega arith;
     object = record { before = []; value = json.empty_object []; after = []; spells = record { utf8 = empty_utf8; object = tt; spelled = refl }; deepest = refl; places = refl };
   };
-  parts = refl;
+  cut = refl;
 }
 object_of limit (part ∷ parts) s = whole_is limit part parts s

@@ -1,5 +1,5 @@
 -- What is written reads back as it was.
-use Rattle.std.specs.Prelude.{◌≡◌, ℕ, ◌+◌, ◌<◌, ◌≤◌, ◌^◌, List, [], ◌∷◌, Option, None, Some, Bool, true, false, All, map, IsUtf8, bytes_eq, decimal}
+use Rattle.std.specs.Prelude.{◌≡◌, ℕ, ◌+◌, ◌<◌, ◌^◌, List, [], ◌∷◌, Option, None, Some, Bool, true, false, map, IsUtf8, bytes_eq, decimal}
 use Rattle.json.specs.Print.{quoted}
 use Rattle.json_scalar.specs.Text.{IsString}
 use Rattle.json_scalar.specs.Number.{IsWhole}
@@ -46,7 +46,7 @@ pub record IsObjectOf (limit : ℕ) (text : List ℕ) (parts : List Part) : Type
   pub value : IsValueWithin limit text
   pub members : List Member
   pub are : AreMembers limit text members
-  pub parts : map (part_at text) members ≡ parts
+  pub cut : map (part_at text) members ≡ parts
 
 -- An object that is written nests one deeper than its members, and has these members and no others.
 abbrev pub ObjectsReadBack : Type 0
@@ -91,7 +91,7 @@ pub record IsListOf (limit : ℕ) (text : List ℕ) (items : List (List ℕ)) : 
   pub value : IsValueWithin limit text
   pub spans : List Span
   pub are : AreElements limit text spans
-  pub items : map (text_at text) spans ≡ items
+  pub cut : map (text_at text) spans ≡ items
 
 -- An array that is written nests one deeper than its elements, and has these elements and no others.
 abbrev pub ListsReadBack : Type 0
