@@ -13,7 +13,7 @@ use Rattle.catalog.specs.declared.stream.ConfStream.{ConfStream}
 use Rattle.catalog.specs.declared.entry.Entry.{Entry}
 use Rattle.catalog.specs.declared.entry.Ids.{Ids}
 use Rattle.catalog.specs.Modes.{sync_mode_of, dest_mode_of}
-use Rattle.catalog.specs.Entry.{Names}
+use Rattle.catalog.specs.Entry.{PathNames}
 
 -- the first list, or the other where the first is empty
 abbrev pub or_else : {A : Type 0} → List A → List A → List A
@@ -21,9 +21,9 @@ or_else [] other = other
 or_else (item ∷ items) other = item ∷ items
 
 -- an empty path is no path
-abbrev pub shown : Names → Option Names
-shown [] = None
-shown (name ∷ names) = Some (name ∷ names)
+abbrev pub unless_empty : PathNames → Option PathNames
+unless_empty [] = None
+unless_empty (name ∷ names) = Some (name ∷ names)
 
 -- the stream that an entry configures with these modes
 abbrev pub stream_with : List ℕ → Entry → SyncMode → DestMode → ConfStream
@@ -31,7 +31,7 @@ stream_with text entry sync_mode dest_mode = record {
   id = entry.stream.id;
   sync = sync_mode;
   dest = dest_mode;
-  cursor = shown (or_else entry.cursor entry.stream.cursor);
+  cursor = unless_empty (or_else entry.cursor entry.stream.cursor);
   key = or_else entry.key entry.stream.key;
   generation = entry.ids.generation;
   minimum = unwrap_or entry.ids.minimum 0;
@@ -54,27 +54,27 @@ abbrev pub is_minimum_above : Ids → Bool
 is_minimum_above ids = nat_lt (unwrap_or ids.generation 0) (unwrap_or ids.minimum 0)
 
 -- a stream that is deduplicated has no key
-abbrev pub lacks_key : DestMode → List Names → Bool
+abbrev pub lacks_key : DestMode → List PathNames → Bool
 lacks_key dest.AppendDedup [] = true
 lacks_key _ _ = false
 
--- the first check that fails
-abbrev pub first_failing : List (Bool × CatalogFault) → Option CatalogFault
+-- the fault of the first check that fails
+abbrev pub first_failing : {F : Type 0} → List (Bool × F) → Option F
 first_failing [] = None
 first_failing (check ∷ checks) = if check.0 then Some check.1 else first_failing checks
 
 -- the checks of stream n with these members, whatever streams stand before it
-abbrev pub fault_of : ℕ → Ids → DestMode → List Names → Option CatalogFault
+abbrev pub fault_of : ℕ → Ids → DestMode → List PathNames → Option CatalogFault
 fault_of n ids dest_mode key = first_failing (
     (is_too_large ids, fault.TooLarge n)
     ∷ (is_minimum_above ids, fault.MinimumAboveGeneration n)
     ∷ (lacks_key dest_mode key, fault.NoKey n)
     ∷ [])
 
--- a stream, unless it has this fault
-abbrev pub unless : Option CatalogFault → ConfStream → Result ConfStream CatalogFault
-unless None stream = Ok stream
-unless (Some found) stream = Err found
+-- a value, unless there is a fault
+abbrev pub unless : {A F : Type 0} → Option F → A → Result A F
+unless None value = Ok value
+unless (Some found) value = Err found
 
 -- what an entry is, once its modes are known; a word that is no mode is found before all else
 abbrev pub judged_in : ℕ → List ℕ → Entry → Option SyncMode → Option DestMode → Result ConfStream CatalogFault

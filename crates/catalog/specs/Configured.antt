@@ -26,7 +26,8 @@ entry_depth = line_depth - 2
 abbrev pub NestsAtMost : ℕ → List ℕ → Type 0
 NestsAtMost limit text = (deep : ℕ) (members : List Member) → IsObject text deep members → deep ≤ limit
 
--- a stream that its entry, alone, reads as
+-- A stream that its entry, alone, reads as. The limits below the first three follow from that, and are told for those who
+-- stand on them.
 pub record IsConfigured (stream : ConfStream) : Type 0 where
   pub reads : ReadsEntry [] stream.raw_entry (Ok stream)
   pub value : IsValue stream.raw_entry

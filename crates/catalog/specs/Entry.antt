@@ -15,22 +15,22 @@ use Rattle.catalog.specs.declared.entry.Ids.{Ids}
 use Rattle.catalog.specs.declared.entry.StreamPart.{StreamPart}
 
 -- the place of a value in a record: the names of the members that lead to it, the outermost first
-abbrev pub Names : Type 0
-Names = List (List ℕ)
+abbrev pub PathNames : Type 0
+PathNames = List (List ℕ)
 
 -- the text is an array of strings that stand for these names
-pub record IsPath (text : List ℕ) (path : Names) : Type 0 where
+pub record IsPath (text : List ℕ) (path : PathNames) : Type 0 where
   pub spans : List Span
   pub elements : AreElements line_depth text spans
   pub names : AllZip (λ span name. IsString (text_at text span) name) spans path
 
 -- a path of a key has at least one name
-pub record IsKeyPath (text : List ℕ) (path : Names) : Type 0 where
+pub record IsKeyPath (text : List ℕ) (path : PathNames) : Type 0 where
   pub is : IsPath text path
   pub named : path ≢ []
 
 -- the text is an array of such paths
-pub record IsKey (text : List ℕ) (key : List Names) : Type 0 where
+pub record IsKey (text : List ℕ) (key : List PathNames) : Type 0 where
   pub spans : List Span
   pub elements : AreElements line_depth text spans
   pub paths : AllZip (λ span path. IsKeyPath (text_at text span) path) spans key

@@ -4,4 +4,5 @@ pub mod Checks
 pub mod Reading
 pub mod Configured
 pub mod Indexed
-pub mod Lanes
+pub mod Parts
+pub mod Written

@@ -29,7 +29,7 @@ impl Configured {
     ghost use Rattle.json_fields.specs.Answer.{IsAnswer};
     ghost use Rattle.basics.specs.declared.limits.TheConstants.{MOST_STREAMS};
     ghost use Rattle.catalog.specs.Reading.{ids_of};
-    ghost use Rattle.catalog.specs.Lanes.{lane_of};
+    ghost use Rattle.catalog.specs.Parts.{part_of};
     ghost use Rattle.catalog.specs.Configured.{AreConfigured, IsConfigured};
 
     // No streams yet.
@@ -94,12 +94,12 @@ impl Configured {
     /// The streams whose number, divided by `lanes`, leaves `lane`, in order.
     pub fn part(&self, alloc: Global, lanes: u32, lane: u32) -> Result<Configured, NoMemory>
         requires { lane < lanes }
-        ensures { IfOk result (λ part. part ≡ lane_of lanes lane self.now) }
+        ensures { IfOk result (λ part. part ≡ part_of lanes lane self.now) }
     {
         let mut part = Configured::empty(alloc);
-        for n in 0..self.streams.len() {
-            if n as u32 % lanes == lane {
-                let stream = self.streams.at(n).copy(alloc)?;
+        for n in 0..self.len() {
+            if n % lanes == lane {
+                let stream = self.stream(n).copy(alloc)?;
                 if !part.add(alloc, stream)? {
                     unreachable!()
                 }

@@ -1,6 +1,6 @@
 // The checks of an entry, in their order.
 ghost use Rattle.std.specs.Prelude.{◌≡◌, []};
-ghost use Rattle.catalog.specs.Checks.{fault_of, is_above as is_above_limit, is_minimum_above as is_minimum_above_generation, is_too_large as is_id_too_large, judged_alone, lacks_key as lacks_its_key, or_else as or_else_list, shown as shown_path, stream_with};
+ghost use Rattle.catalog.specs.Checks.{fault_of, is_above as is_above_limit, is_minimum_above as is_minimum_above_generation, is_too_large as is_id_too_large, judged_alone, lacks_key as lacks_its_key, or_else as or_else_list, unless_empty as unless_empty_path, stream_with};
 
 use crate::entry::{Entry, Ids, StreamPart};
 use crate::{CatalogFault, ConfStream, DestMode, SyncMode};
@@ -49,8 +49,8 @@ fn or_else<T: Drop>(first: Sequence<T>, other: Sequence<T>) -> Sequence<T>
 }
 
 // A path, which is none where it is empty.
-fn shown(path: Path) -> Option<Path>
-    ensures { result ≡ shown_path path }
+fn unless_empty(path: Path) -> Option<Path>
+    ensures { result ≡ unless_empty_path path }
 {
     if path.is_empty() { None } else { Some(path) }
 }
@@ -86,7 +86,7 @@ fn stream_of(entry: Entry, text: Bytes, sync: SyncMode, dest: DestMode) -> ConfS
         id: stream.id,
         sync,
         dest,
-        cursor: shown(or_else(cursor, stream.cursor)),
+        cursor: unless_empty(or_else(cursor, stream.cursor)),
         key: or_else(key, stream.key),
         generation: ids.generation,
         minimum: ids.minimum.unwrap_or(0),

@@ -11,9 +11,11 @@ mod modes;
 mod paths;
 mod read;
 mod stream;
+mod write;
 
 pub use configured::Configured;
 pub use fault::CatalogFault;
 pub use modes::{DestMode, SyncMode};
 pub use read::read_configured;
 pub use stream::{ConfStream, Gen, GenList};
+pub use write::{catalogs_read_back, one_catalog_text, write_catalog};

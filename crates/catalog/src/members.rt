@@ -36,7 +36,10 @@ fn stream_id_of(
     let Some(namespace) = optional_text(alloc, stream, members, "namespace")? else {
         return Ok(None);
     };
-    if name.as_str().len() > LONGEST_NAME || !is_short(&namespace) {
+    if name.as_str().len() > LONGEST_NAME {
+        return Ok(None);
+    }
+    if !is_short(&namespace) {
         return Ok(None);
     }
     Ok(Some(StreamId { name, namespace }))

@@ -1,0 +1,4 @@
+pub mod ConfiguredLemmas
+pub mod EntryLemmas
+pub mod ListLemmas
+pub mod ReadLemmas

@@ -1,8 +1,0 @@
--- The streams of one lane of several.
-use Rattle.std.specs.Prelude.{ℕ, ◌%◌, List, map, filter, ◌==◌}
-use Rattle.std.specs.List.{enumerate_from}
-use Rattle.catalog.specs.declared.stream.ConfStream.{ConfStream}
-
--- the streams whose number, divided by `lanes`, leaves `lane`, in order
-abbrev pub lane_of : ℕ → ℕ → List ConfStream → List ConfStream
-lane_of lanes lane streams = map (λ numbered. numbered.1) (filter (λ numbered. numbered.0 % lanes == lane) (enumerate_from 0 streams))
