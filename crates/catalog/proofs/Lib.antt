@@ -1,4 +1,6 @@
 pub mod ConfiguredLemmas
 pub mod EntryLemmas
 pub mod ListLemmas
+pub mod NestLemmas
+pub mod OneLemmas
 pub mod ReadLemmas

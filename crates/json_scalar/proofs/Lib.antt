@@ -2,7 +2,7 @@ mod Options
 mod Powers
 mod Spellings
 mod Cuts
-mod Values
+pub mod Values
 pub mod Contents
 mod Lexing
 mod Plain

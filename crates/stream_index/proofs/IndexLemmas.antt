@@ -134,3 +134,10 @@ new_is ids id added e = (
   λ is. by_cases (list_any ((eq-value).it id) ids) (λ there. absurd (true_false (sym is ∙ (e ∙ ap not there)))) (λ absent. no_place ids id absent),
   λ none. e ∙ ap not (no_place_is ids id none),
 )
+
+-- where a stream stands nowhere, the test finds none, and else it finds one
+pub same_absent : (ids : List StreamId) (id : StreamId) → ((place : ℕ) → ¬ (slice_get ids place ≡ Some id)) → list_any (is_same_stream id) ids ≡ false
+same_absent ids id none = by_cases (list_any (is_same_stream id) ids) (λ passed. let r = list_any-place (is_same_stream id) ids passed in absurd (none r.0 (r.2 ∙ ap (λ (x : StreamId). Some x) (sym ((Decides-stream id r.1).0 r.3))))) (λ failed. failed)
+
+pub same_present : (ids : List StreamId) (id : StreamId) → ¬ ((place : ℕ) → ¬ (slice_get ids place ≡ Some id)) → list_any (is_same_stream id) ids ≡ true
+same_present ids id there = by_cases (list_any (is_same_stream id) ids) (λ passed. passed) (λ failed. absurd (there (λ place at. true_false (sym (list_any-at (is_same_stream id) ids place id at ((Decides-stream id id).1 refl)) ∙ failed))))
