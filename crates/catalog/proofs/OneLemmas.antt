@@ -1,5 +1,5 @@
 -- What a text says is one thing: its members, its elements, and all that is read of them.
-use Rattle.std.proofs.Common.{◌≡◌, ◌⊎◌, inl, inr, ℕ, List, [], ◌∷◌, Option, None, Some, refl, sym, ◌∙◌, ap, subst, ◌≤◌, codes, Bool, true, false, IsTrue, ◌↔◌, unwrap_or, Result, Ok, Err, length, ◌++◌, arith}
+use Rattle.std.proofs.Common.{◌≡◌, ◌⊎◌, inl, inr, ℕ, List, [], ◌∷◌, Option, None, Some, refl, sym, ◌∙◌, ap, subst, ◌≤◌, ◌<◌, codes, Bool, true, false, IsTrue, ◌↔◌, unwrap_or, Result, Ok, Err, length, ◌++◌, arith}
 use Rattle.std.specs.List.{AllZip}
 use Rattle.std.specs.Result.{MatchResult}
 use Rattle.json_scalar.specs.Text.{IsString}
@@ -17,6 +17,7 @@ use Rattle.json_fields.specs.Answer.{IsOnly}
 use Rattle.json_fields.specs.Fields.{HasField, HasOptional, HasText, HasOptionalText, IsOptionalText, Holds, line_depth, present}
 use Rattle.json_fields.specs.Parts.{IsCount, HasOptionalCount, IsOptionalCount}
 use Rattle.json_fields.proofs.FieldLemmas.{Holds-only}
+use Rattle.basics.specs.declared.limits.TheConstants.{MOST_STREAMS}
 use Rattle.basics.specs.declared.stream.StreamId.{StreamId}
 use Rattle.catalog.specs.declared.fault.CatalogFault.{CatalogFault}
 use Rattle.catalog.specs.declared.fault.CatalogFault.TheVariants as fault
@@ -166,3 +167,17 @@ one_reading text a b (inr p) (inr q) =
 
 pub only_reading : (text : List ℕ) (reading : Reading) → ReadsAs text reading → IsOnly (ReadsAs text) reading
 only_reading text reading h = record { is = h; only = λ other o. one_reading text reading other h o }
+
+-- ---- what is read of a text that is no catalog, and of one that is
+
+pub no_catalog : (text : List ℕ) → ((list : List ℕ) (spans : List Span) → ¬ HasStreams text list spans) → IsOnly (ReadsAs text) (Err fault.NotJson)
+no_catalog text none = only_reading text (Err fault.NotJson) (inl (none, refl))
+
+pub no_array : (text held : List ℕ) → HasField text (codes "streams") held → ((spans : List Span) → ¬ AreElements line_depth held spans) → IsOnly (ReadsAs text) (Err fault.NotJson)
+no_array text held field none = no_catalog text (λ list spans has. none spans (subst (λ (l : List ℕ). AreElements line_depth l spans) (one_field text (codes "streams") held list field has.field) has.elements))
+
+pub too_many : (text list : List ℕ) (spans : List Span) → HasStreams text list spans → MOST_STREAMS < length spans → IsOnly (ReadsAs text) (Err fault.TooMany)
+too_many text list spans has more = only_reading text (Err fault.TooMany) (inr (list, spans, has, inl (more, refl)))
+
+pub entries_read : (text list : List ℕ) (spans : List Span) (reading : Reading) → HasStreams text list spans → length spans ≤ MOST_STREAMS → ReadsEntries list [] spans reading → IsOnly (ReadsAs text) reading
+entries_read text list spans reading has few reads = only_reading text reading (inr (list, spans, has, inr (few, reads)))
