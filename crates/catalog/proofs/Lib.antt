@@ -4,3 +4,4 @@ pub mod ListLemmas
 pub mod NestLemmas
 pub mod OneLemmas
 pub mod ReadLemmas
+pub mod WriteLemmas

@@ -30,10 +30,10 @@ use Rattle.catalog.specs.Entry.{PathNames, IsPath, IsKeyPath, IsKey, HasOptional
 use Rattle.catalog.specs.Reading.{Reading, ReadsAs, ReadsEntries, ReadsEntry, ReadsList, HasStreams, ids_of}
 use Rattle.catalog.proofs.EntryLemmas.{stream_answer, ids_answer, entry_answer, has_id, has_schema}
 
-one_members : (limit : ℕ) (text : List ℕ) (members others : List Member) → AreMembers limit text members → AreMembers limit text others → others ≡ members
+pub one_members : (limit : ℕ) (text : List ℕ) (members others : List Member) → AreMembers limit text members → AreMembers limit text others → others ≡ members
 one_members limit text members others a b = sym (sound text b.deep others b.object).places ∙ (sound text a.deep members a.object).places
 
-one_elements : (text : List ℕ) (spans others : List Span) → AreElements line_depth text spans → AreElements line_depth text others → others ≡ spans
+pub one_elements : (text : List ℕ) (spans others : List Span) → AreElements line_depth text spans → AreElements line_depth text others → others ≡ spans
 one_elements text spans others a b =
     let deepest = (read_whole frame.Array text).deepest in
     let most : deepest ≤ deepest = omega arith in
@@ -71,7 +71,7 @@ optional_counts (Some held) (Some count) (Some other) a b = ap (λ (n : ℕ). So
 one_optional_count : (text name : List ℕ) (count other : Option ℕ) → HasOptionalCount text name count → HasOptionalCount text name other → other ≡ count
 one_optional_count text name count other a b = optional_counts a.held count other a.is (subst (λ (h : Option (List ℕ)). IsOptionalCount h other) (one_optional text name a.held b.held a.optional b.optional) b.is)
 
-all_one : {A B : Type 0} (R : A → B → Type 0) → ((x : A) (y z : B) → R x y → R x z → z ≡ y) → (xs : List A) (ys zs : List B) → AllZip R xs ys → AllZip R xs zs → zs ≡ ys
+pub all_one : {A B : Type 0} (R : A → B → Type 0) → ((x : A) (y z : B) → R x y → R x z → z ≡ y) → (xs : List A) (ys zs : List B) → AllZip R xs ys → AllZip R xs zs → zs ≡ ys
 all_one R one [] [] [] a b = refl
 all_one R one [] [] (z ∷ zs) a b = absurd b
 all_one R one [] (y ∷ ys) zs a b = absurd a

@@ -18,4 +18,4 @@ pub use fault::CatalogFault;
 pub use modes::{DestMode, SyncMode};
 pub use read::read_configured;
 pub use stream::{ConfStream, Gen, GenList};
-pub use write::{catalogs_read_back, one_catalog_text, write_catalog};
+pub use write::{one_catalog_text, write_catalog};

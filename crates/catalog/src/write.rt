@@ -6,13 +6,13 @@ ghost use Rattle.json_fields.specs.Parts.{NestsWithin};
 ghost use Rattle.json_write.specs.Laws.{part_at};
 ghost use Rattle.json_write.specs.Objects.{part_before};
 ghost use Rattle.catalog.specs.Configured.{entry_depth};
-ghost use Rattle.catalog.specs.Written.{CatalogsReadBack, GrowsByEntry, GrowsByKept, IsCatalogText, IsGenerationKey, OneCatalogText};
+ghost use Rattle.catalog.specs.Written.{GrowsByEntry, GrowsByKept, IsCatalogText, IsGenerationKey, OneCatalogText};
 
 use crate::{Configured, Gen, GenList};
 use basics::{Bytes, NoMemory};
 use json_fields::cut;
 use json_span::{MAX_DEPTH, Member, is_string_of};
-use json_write::{put_comma, put_number_member};
+use json_write::{put_comma, put_key, put_number_member};
 use std::alloc::Global;
 
 // Puts a mark, and a member as it stands.
@@ -67,7 +67,8 @@ fn put_entry(alloc: Global, text: &mut Bytes, entry: &[u8], numbers: Gen) -> Res
     let mark = put_kept(alloc, text, entry, members.as_slice())?;
     put_number_member(text, mark, "generation_id", numbers.generation)?;
     put_number_member(text, b',', "minimum_generation_id", numbers.minimum)?;
-    text.push(b'}')
+    text.push(b'}')?;
+    Ok(())
 }
 
 /// Writes a catalog with these generations, one for each stream: the members of each entry as they stood, in order, but for
@@ -81,20 +82,17 @@ pub fn write_catalog(
     ensures { IfOk result (IsOnly (IsCatalogText configured.now gens.now)) }
 {
     let mut text = Bytes::new(alloc);
-    text.extend(b"{\"streams\":[")?;
+    put_key(&mut text, b'{', "streams")?;
+    text.push(b'[')?;
     for n in 0..configured.len() {
         put_comma(&mut text, n == 0)?;
         let numbers = *gens.at(n as usize);
         put_entry(alloc, &mut text, configured.stream(n).raw_entry.as_slice(), numbers)?;
     }
-    text.extend(b"]}")?;
+    text.push(b']')?;
+    text.push(b'}')?;
     Ok(text)
 }
-
-/// A law: the text of a catalog with generations that fit reads as its streams with these generations.
-pub fn catalogs_read_back()
-    ensures { CatalogsReadBack }
-{}
 
 /// A law: streams with their generations have one text.
 pub fn one_catalog_text()
