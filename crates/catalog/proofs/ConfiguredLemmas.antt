@@ -1,5 +1,5 @@
 -- A catalog's streams and its index grow together; the streams of a lane.
-use Rattle.std.proofs.Common.{◌≡◌, ◌≢◌, ◌⊎◌, inl, inr, ℕ, zero, suc, List, [], ◌∷◌, ◌++◌, Option, None, Some, refl, sym, ◌∙◌, ap, subst, arith, ◌<◌, ◌≤◌, ◌+◌, ◌%◌, length, take, map, filter, slice_get, slice_index_or, Bool, true, false, cond, if◌then◌else◌, ◌==◌, All, length-append, eq-eqb}
+use Rattle.std.proofs.Common.{◌≡◌, ◌⊎◌, inl, inr, ℕ, zero, suc, List, [], ◌∷◌, ◌++◌, None, Some, refl, sym, ◌∙◌, ap, subst, arith, ◌<◌, ◌≤◌, ◌+◌, ◌%◌, length, take, map, filter, slice_get, slice_index_or, Bool, true, false, cond, if◌then◌else◌, ◌==◌, All, length-append, eq-eqb}
 use Rattle.std.specs.List.{enumerate_from}
 use Rattle.std.specs.Option.{option_map}
 use Rattle.std.proofs.lemmas.Bool.Decides.{Decides-eqb}
@@ -9,7 +9,7 @@ use Rattle.std.proofs.lemmas.List.Elements.{All-append, All-cons}
 use Rattle.basics.specs.declared.limits.TheConstants.{MOST_STREAMS}
 use Rattle.basics.specs.declared.stream.StreamId.{StreamId}
 use Rattle.stream_index.specs.Distinct.{AreDistinct}
-use Rattle.stream_index.proofs.DistinctLemmas.{distinct_more, place_behind, place_before, Some-injective}
+use Rattle.stream_index.proofs.DistinctLemmas.{distinct_more, Some-injective}
 use Rattle.catalog.specs.declared.stream.ConfStream.{ConfStream}
 use Rattle.catalog.specs.Configured.{AreConfigured, IsConfigured}
 use Rattle.catalog.specs.Indexed.{IsIndexed}
@@ -74,6 +74,7 @@ lane_first lanes lane n stream streams = by_cases (n % lanes == lane) here there
   where
     here : (n % lanes == lane) ≡ true → lane_from lanes lane n (stream ∷ streams) ≡ put_if (n % lanes == lane) stream (lane_from lanes lane (n + 1) streams)
     here e = ap (λ (b : Bool). map (λ (numbered : ℕ × ConfStream). numbered.1) (cond b ((n, stream) ∷ filter (λ numbered. numbered.0 % lanes == lane) (enumerate_from (n + 1) streams)) (filter (λ numbered. numbered.0 % lanes == lane) (enumerate_from (n + 1) streams)))) e ∙ sym (ap (λ (b : Bool). put_if b stream (lane_from lanes lane (n + 1) streams)) e)
+
     there : (n % lanes == lane) ≡ false → lane_from lanes lane n (stream ∷ streams) ≡ put_if (n % lanes == lane) stream (lane_from lanes lane (n + 1) streams)
     there e = ap (λ (b : Bool). map (λ (numbered : ℕ × ConfStream). numbered.1) (cond b ((n, stream) ∷ filter (λ numbered. numbered.0 % lanes == lane) (enumerate_from (n + 1) streams)) (filter (λ numbered. numbered.0 % lanes == lane) (enumerate_from (n + 1) streams)))) e ∙ sym (ap (λ (b : Bool). put_if b stream (lane_from lanes lane (n + 1) streams)) e)
 
@@ -159,8 +160,8 @@ lane_member : (lanes lane n : ℕ) (streams : List ConfStream) (place : ℕ) (id
 lane_member lanes lane n [] place id at = (place, at)
 lane_member lanes lane n (stream ∷ streams) place id at =
     elim (member_put (n % lanes == lane) stream (lane_from lanes lane (n + 1) streams) place id (ap (λ (ss : List ConfStream). slice_get (ids_of ss) place) (sym (lane_first lanes lane n stream streams)) ∙ at)) [
-      inl here ↦ (0, ap (λ (x : StreamId). Some x) here)
-    | inr there ↦ (let m = lane_member lanes lane (n + 1) streams there.0 id there.1 in (suc m.0, m.1))
+      | inl here ↦ (0, ap (λ (x : StreamId). Some x) here)
+      | inr there ↦ (let m = lane_member lanes lane (n + 1) streams there.0 id there.1 in (suc m.0, m.1))
     ]
 
 None-is_Some : {A : Type 0} (a : A) → None ≡ Some a → ⊥

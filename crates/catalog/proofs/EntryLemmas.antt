@@ -1,5 +1,5 @@
 -- What the members of an entry say, from each of them.
-use Rattle.std.proofs.Common.{◌≡◌, ◌≢◌, ◌↔◌, ℕ, List, [], ◌∷◌, Option, None, Some, refl, sym, ◌∙◌, ap, subst, arith, ◌<◌, ◌≤◌, length, codes, Bool, true, false, IsTrue, unwrap_or}
+use Rattle.std.proofs.Common.{◌≡◌, ◌≢◌, ◌↔◌, ℕ, List, [], Option, None, refl, sym, ◌∙◌, ap, subst, arith, ◌<◌, ◌≤◌, length, codes, Bool, true, false, IsTrue, unwrap_or}
 use Rattle.std.specs.List.{AllZip}
 use Rattle.std.specs.Str.{bytes_eq}
 use Rattle.std.proofs.lemmas.Slice.Eq.{bytes_eq-Decides}
@@ -11,7 +11,7 @@ use Rattle.json_span.specs.Elements.{AreElements}
 use Rattle.json_fields.specs.Answer.{IsAnswer, IsOnly}
 use Rattle.json_fields.specs.Fields.{HasField, HasOptional, HasText, HasOptionalText, line_depth}
 use Rattle.json_fields.specs.Parts.{HasOptionalCount, IsCutList}
-use Rattle.json_fields.proofs.AnswerLemmas.{at, None-Some, true_false}
+use Rattle.json_fields.proofs.AnswerLemmas.{true_false}
 use Rattle.basics.specs.declared.stream.StreamId.{StreamId}
 use Rattle.basics.specs.declared.limits.TheConstants.{LONGEST_NAME}
 use Rattle.catalog.specs.declared.entry.Entry.{Entry}

@@ -1,5 +1,5 @@
 -- Lists that are read element by element, each element having at most one reading.
-use Rattle.std.proofs.Common.{◌≡◌, ℕ, zero, suc, List, [], ◌∷◌, ◌++◌, Option, None, Some, refl, sym, ◌∙◌, ap, subst, arith, ◌<◌, ◌≤◌, ◌+◌, length, take, slice_index_or, IfNone, All}
+use Rattle.std.proofs.Common.{◌≡◌, ℕ, zero, suc, List, [], ◌∷◌, ◌++◌, Option, None, Some, refl, sym, ◌∙◌, ap, subst, arith, ◌<◌, ◌≤◌, ◌+◌, length, take, slice_index_or, IfNone}
 use Rattle.std.specs.List.{AllZip}
 use Rattle.std.proofs.lemmas.List.{take_more, take_all}
 use Rattle.json_span.specs.Elements.{AreElements}
@@ -7,7 +7,7 @@ use Rattle.json_span.specs.declared.Span.{Span}
 use Rattle.json_fields.specs.Answer.{IsAnswer, IsOnly}
 use Rattle.json_fields.specs.Fields.{HasOptional, line_depth}
 use Rattle.json_fields.specs.Parts.{IsCutList}
-use Rattle.json_fields.proofs.AnswerLemmas.{at, absent}
+use Rattle.json_fields.proofs.AnswerLemmas.{at}
 use Rattle.catalog.specs.Entry.{HasOptionalList, IsOptionalList}
 
 -- the elements so far, of which each has this reading only

@@ -1,10 +1,10 @@
 -- How deep the entries of a catalog nest.
-use Rattle.std.proofs.Common.{◌≡◌, ℕ, ◌+◌, ◌<◌, ◌≤◌, List, [], ◌∷◌, ◌++◌, length, Option, None, Some, All, refl, sym, ◌∙◌, subst, arith, append_assoc, length-append, slice_index_or, codes}
+use Rattle.std.proofs.Common.{◌≡◌, ℕ, ◌+◌, ◌<◌, ◌≤◌, List, ◌∷◌, ◌++◌, length, All, refl, sym, ◌∙◌, subst, arith, append_assoc, length-append, slice_index_or, codes}
 use Rattle.std.specs.List.{AllByRecursion}
 use Rattle.std.proofs.lemmas.List.Elements.{All-from_recursion}
 use Rattle.json_span.specs.Grammar as json
 use Rattle.json_span.specs.Grammar.{Space, Value, Items, value_text, items_text, depth, items_depth, space_text}
-use Rattle.json_span.specs.Members.{IsObject, IsValue, text_at}
+use Rattle.json_span.specs.Members.{IsValue, text_at}
 use Rattle.json_span.specs.Elements.{AreElements, IsArray, IsArrayValue, IsElementOf, element_at, element_end, elements_from, elements_of}
 use Rattle.json_span.specs.declared.Span.{Span}
 use Rattle.json_span.proofs.Parts.{part_at}

@@ -1,13 +1,13 @@
 -- What a text says is one thing: its members, its elements, and all that is read of them.
-use Rattle.std.proofs.Common.{◌≡◌, ◌⊎◌, inl, inr, ℕ, List, [], ◌∷◌, Option, None, Some, refl, sym, ◌∙◌, ap, subst, ◌≤◌, ◌<◌, codes, Bool, true, false, IsTrue, ◌↔◌, unwrap_or, Result, Ok, Err, length, ◌++◌, arith}
+use Rattle.std.proofs.Common.{◌≡◌, inl, inr, ℕ, List, [], ◌∷◌, Option, None, Some, refl, sym, ◌∙◌, ap, subst, ◌≤◌, ◌<◌, codes, Result, Ok, Err, length, ◌++◌, arith}
 use Rattle.std.specs.List.{AllZip}
 use Rattle.std.specs.Result.{MatchResult}
 use Rattle.json_scalar.specs.Text.{IsString}
 use Rattle.json_scalar.proofs.Contents.{one_meaning}
 use Rattle.json_scalar.proofs.Values.{one_whole}
 use Rattle.json_span.specs.Machine.{read_whole}
-use Rattle.json_span.specs.Members.{AreMembers, IsObject, text_at}
-use Rattle.json_span.specs.Elements.{AreElements, IsArray}
+use Rattle.json_span.specs.Members.{AreMembers, text_at}
+use Rattle.json_span.specs.Elements.{AreElements}
 use Rattle.json_span.specs.declared.Member.{Member}
 use Rattle.json_span.specs.declared.Span.{Span}
 use Rattle.json_span.specs.declared.phase.Frame.TheVariants as frame
@@ -15,7 +15,7 @@ use Rattle.json_span.proofs.Theorems.{sound}
 use Rattle.json_span.proofs.ArrayTheorems.{finds_only_array}
 use Rattle.json_fields.specs.Answer.{IsOnly}
 use Rattle.json_fields.specs.Fields.{HasField, HasOptional, HasText, HasOptionalText, IsOptionalText, Holds, line_depth, present}
-use Rattle.json_fields.specs.Parts.{IsCount, HasOptionalCount, IsOptionalCount}
+use Rattle.json_fields.specs.Parts.{HasOptionalCount, IsOptionalCount}
 use Rattle.json_fields.proofs.FieldLemmas.{Holds-only}
 use Rattle.basics.specs.declared.limits.TheConstants.{MOST_STREAMS}
 use Rattle.basics.specs.declared.stream.StreamId.{StreamId}

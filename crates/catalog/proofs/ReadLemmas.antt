@@ -1,13 +1,9 @@
 -- What a text reads as is one thing; a loop over the entries goes on by one.
-use Rattle.std.proofs.Common.{◌≡◌, ◌≢◌, ◌⊎◌, inl, inr, ℕ, zero, suc, List, [], ◌∷◌, ◌++◌, Option, None, Some, refl, sym, ◌∙◌, ap, subst, arith, ◌<◌, ◌≤◌, ◌+◌, length, take, drop, slice_index_or, codes, Result, Ok, Err, All, Bool, true, false, cond, if◌then◌else◌, ◌||◌, unwrap_or, length-append}
-use Rattle.std.specs.Result.{MatchResult, IfErr, IsErrAnd}
+use Rattle.std.proofs.Common.{◌≡◌, ◌≢◌, inl, inr, ℕ, suc, List, [], ◌∷◌, ◌++◌, Option, None, Some, refl, sym, ◌∙◌, ap, subst, arith, ◌<◌, ◌≤◌, ◌+◌, length, drop, slice_index_or, Result, Ok, Err, Bool, true, false, cond, ◌||◌, unwrap_or, length-append}
+use Rattle.std.specs.Result.{IfErr, IsErrAnd}
 use Rattle.json_span.specs.Members.{text_at}
-use Rattle.json_span.specs.Elements.{AreElements}
 use Rattle.json_span.specs.declared.Span.{Span}
 use Rattle.json_fields.specs.Answer.{IsAnswer, IsOnly}
-use Rattle.json_fields.specs.Fields.{HasField, line_depth}
-use Rattle.json_fields.specs.Parts.{IsCutList}
-use Rattle.basics.specs.declared.limits.TheConstants.{MOST_STREAMS}
 use Rattle.catalog.specs.declared.fault.CatalogFault.{CatalogFault}
 use Rattle.catalog.specs.declared.fault.CatalogFault.TheVariants as fault
 use Rattle.catalog.specs.declared.stream.ConfStream.{ConfStream}
@@ -26,7 +22,7 @@ use Rattle.catalog.specs.Modes.{sync_mode_of, dest_mode_of}
 use Rattle.catalog.specs.Configured.{IsConfigured, IsWithinLimit, NestsAtMost, entry_depth}
 use Rattle.catalog.specs.Checks.{fault_of, first_failing, is_above, is_minimum_above, is_too_large, judged, judged_alone, judged_in, lacks_key, once, or_else, stream_with, unless}
 use Rattle.catalog.specs.Entry.{IsEntry}
-use Rattle.catalog.specs.Reading.{Reading, ReadsAs, ReadsEntries, ReadsEntry, ReadsList, HasStreams, TakesEntry, ids_of}
+use Rattle.catalog.specs.Reading.{Reading, ReadsEntries, ReadsEntry, TakesEntry, ids_of}
 
 -- an entry has one reading, given that its members say one thing
 pub entry_missing : (before : List ConfStream) (text : List ℕ) → IsAnswer (IsEntry text) None → IsOnly (ReadsEntry before text) (Err (fault.Missing (length before)))
@@ -175,10 +171,10 @@ left spans i d lt = drop-cons spans i d lt ∙ ap (λ (n : ℕ). slice_index_or 
 pub goes_next : (list : List ℕ) (spans : List Span) (i : ℕ) (d : Span) (streams now : List ConfStream) (element : List ℕ) → i < length spans → element ≡ text_at list (slice_index_or spans i d) → TakesEntry streams element now → GoesOn list spans i streams → GoesOn list spans (i + 1) now
 goes_next list spans i d streams now element lt is takes goes = record {
   reads = λ reading rest. goes.reads reading (subst (λ (ss : List Span). ReadsEntries list streams ss reading) (sym (left spans i d lt)) (
-      Ok takes.stream,
-      subst (λ (t : List ℕ). ReadsEntry streams t (Ok takes.stream)) is takes.reads,
-      subst (λ (ss : List ConfStream). ReadsEntries list ss (drop (i + 1) spans) reading) takes.is rest,
-    ));
+    Ok takes.stream,
+    subst (λ (t : List ℕ). ReadsEntry streams t (Ok takes.stream)) is takes.reads,
+    subst (λ (ss : List ConfStream). ReadsEntries list ss (drop (i + 1) spans) reading) takes.is rest,
+  ));
   long = let e = ap length takes.is in let more = length-append streams (takes.stream ∷ []) in let was = goes.long in omega arith;
 }
 

@@ -1,5 +1,5 @@
 -- A catalog's text grows by one member, and by one entry, after another.
-use Rattle.std.proofs.Common.{◌≡◌, ◌⊎◌, inl, inr, ℕ, zero, suc, List, [], ◌∷◌, ◌++◌, refl, sym, ◌∙◌, ap, subst, arith, ◌<◌, ◌≤◌, ◌+◌, length, take, map, slice_get, slice_index_or, codes, Bool, true, false, cond, nat_eq, append_assoc, append-nil, Some, decimal, length-append, All}
+use Rattle.std.proofs.Common.{◌≡◌, ◌⊎◌, inl, inr, ℕ, zero, suc, List, [], ◌∷◌, ◌++◌, refl, sym, ◌∙◌, ap, subst, arith, ◌<◌, ◌≤◌, ◌+◌, length, take, map, slice_get, slice_index_or, codes, Bool, cond, nat_eq, append_assoc, append-nil, Some, decimal, length-append}
 use Rattle.std.specs.List.{AllZip, zip}
 use Rattle.std.proofs.lemmas.List.{take_more, take_all}
 use Rattle.std.proofs.lemmas.Bool.{ne_eqb}
@@ -9,7 +9,7 @@ use Rattle.json_span.specs.declared.Member.{Member}
 use Rattle.json_fields.specs.Answer.{IsOnly}
 use Rattle.json_fields.specs.Fields.{line_depth}
 use Rattle.json_write.specs.Laws.{part_at}
-use Rattle.json_write.specs.Objects.{Part, named, part_before, object_text, open_object, list_text, open_list, more_items}
+use Rattle.json_write.specs.Objects.{Part, named, part_before, object_text, list_text, open_list, more_items}
 use Rattle.json_write.proofs.Texts.{grows, closes, list_closes, more_items-append}
 use Rattle.catalog.specs.declared.stream.ConfStream.{ConfStream}
 use Rattle.catalog.specs.declared.stream.Gen.{Gen}
@@ -152,15 +152,15 @@ pub entries_more : (streams : List ConfStream) (gens : List Gen) (n : ℕ) (stre
 entries_more streams gens n stream gen text marked next same lt at gen_at mark g was = record {
   entries = was.entries ++ g.text ∷ [];
   are =
-    let pairs = zip_more (take n streams) (take n gens) stream gen (length-take gens n (omega arith) ∙ sym (length-take streams n (omega arith))) in
-    let all = zip_push IsPairText (zip (take n streams) (take n gens)) was.entries (stream, gen) g.text was.are g.is in
-    subst (λ (ss : List ConfStream). AreEntryTexts ss (take (n + 1) gens) (was.entries ++ g.text ∷ [])) (sym (taken streams n stream lt at))
-    (subst (λ (gs : List Gen). AreEntryTexts (take n streams ++ stream ∷ []) gs (was.entries ++ g.text ∷ [])) (sym (taken gens n gen (omega arith) gen_at))
-    (subst (λ (ps : List (ConfStream × Gen)). AllZip IsPairText ps (was.entries ++ g.text ∷ [])) (sym pairs) all));
+      let pairs = zip_more (take n streams) (take n gens) stream gen (length-take gens n (omega arith) ∙ sym (length-take streams n (omega arith))) in
+      let all = zip_push IsPairText (zip (take n streams) (take n gens)) was.entries (stream, gen) g.text was.are g.is in
+      subst (λ (ss : List ConfStream). AreEntryTexts ss (take (n + 1) gens) (was.entries ++ g.text ∷ [])) (sym (taken streams n stream lt at))
+      (subst (λ (gs : List Gen). AreEntryTexts (take n streams ++ stream ∷ []) gs (was.entries ++ g.text ∷ [])) (sym (taken gens n gen (omega arith) gen_at))
+      (subst (λ (ps : List (ConfStream × Gen)). AllZip IsPairText ps (was.entries ++ g.text ∷ [])) (sym pairs) all));
   many = let e = length-append was.entries (g.text ∷ []) in let m = was.many in omega arith;
   grew =
-    let comma = cond (nat_eq n 0) [] (44 ∷ []) in
-    g.grew ∙ (ap (λ (t : List ℕ). t ++ g.text) (mark ∙ ap (λ (t : List ℕ). t ++ comma) was.grew) ∙ (append_assoc (front ++ open_list was.entries) comma g.text ∙ (append_assoc front (open_list was.entries) (comma ++ g.text) ∙ ap (λ (t : List ℕ). front ++ t) (open_more was.entries g.text n was.many))));
+      let comma = cond (nat_eq n 0) [] (44 ∷ []) in
+      g.grew ∙ (ap (λ (t : List ℕ). t ++ g.text) (mark ∙ ap (λ (t : List ℕ). t ++ comma) was.grew) ∙ (append_assoc (front ++ open_list was.entries) comma g.text ∙ (append_assoc front (open_list was.entries) (comma ++ g.text) ∙ ap (λ (t : List ℕ). front ++ t) (open_more was.entries g.text n was.many))));
 }
 
 -- the whole text

@@ -87,7 +87,12 @@ pub fn write_catalog(
     for n in 0..configured.len() {
         put_comma(&mut text, n == 0)?;
         let numbers = *gens.at(n as usize);
-        put_entry(alloc, &mut text, configured.stream(n).raw_entry.as_slice(), numbers)?;
+        put_entry(
+            alloc,
+            &mut text,
+            configured.stream(n).raw_entry.as_slice(),
+            numbers,
+        )?;
     }
     text.push(b']')?;
     text.push(b'}')?;

@@ -1,4 +1,4 @@
-use Rattle.std.proofs.Common.{ap, sym, ◌∙◌, codes, Some, None}
+use Rattle.std.proofs.Common.{ap, codes, Some, None}
 use Rattle.std.specs.Option.{option_copied}
 use Rattle.std.proofs.lemmas.Result.{IfOk-weaker}
 use Rattle.json_fields.specs.Fields.{HasOptional}

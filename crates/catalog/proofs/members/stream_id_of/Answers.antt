@@ -1,4 +1,4 @@
-use Rattle.std.proofs.Common.{codes, List, ℕ, Option, sym, ◌∙◌, ◌<◌, ◌≤◌, length, subst, ap, arith}
+use Rattle.std.proofs.Common.{codes, List, ℕ, sym, ◌∙◌, ◌<◌, ◌≤◌, length, subst}
 use Rattle.basics.specs.declared.limits.TheConstants.{LONGEST_NAME}
 use Rattle.json_fields.specs.Fields.{HasText, HasOptionalText}
 use Rattle.json_fields.proofs.AnswerLemmas.{along, true_false}

@@ -1,8 +1,7 @@
-use Rattle.std.proofs.Common.{◌≡◌, ◌<◌, List, ℕ, length, subst, sym}
+use Rattle.std.proofs.Common.{◌<◌, List, ℕ, length, subst, sym}
 use Rattle.json_scalar.specs.Text.{IsString}
-use Rattle.json_span.specs.Members.{text_at}
 use Rattle.json_span.specs.declared.Span.{Span}
-use Rattle.json_fields.specs.Answer.{IsAnswer, IsOnly}
+use Rattle.json_fields.specs.Answer.{IsOnly}
 use Rattle.json_fields.proofs.AnswerLemmas.{along}
 use Rattle.json_fields.proofs.FieldLemmas.{string_found}
 use Rattle.catalog.proofs.EntryLemmas.{IsNameAt}

@@ -1,13 +1,11 @@
-use Rattle.std.proofs.Common.{◌≡◌, ◌≢◌, ◌<◌, ◌≤◌, List, ℕ, Option, IfSome, Ok, Err, ap, sym, subst, codes, length, Some, refl}
+use Rattle.std.proofs.Common.{◌≡◌, ◌<◌, ◌≤◌, List, ℕ, Option, IfSome, Ok, Err, ap, sym, subst, codes, length, Some, refl}
 use Rattle.std.specs.Option.{option_copied}
 use Rattle.std.proofs.lemmas.Result.{IfOk-weaker, IfErr-weaker}
 use Rattle.basics.specs.declared.limits.TheConstants.{MOST_STREAMS}
-use Rattle.json_span.specs.Elements.{AreElements}
 use Rattle.json_span.specs.declared.Span.{Span}
 use Rattle.json_fields.specs.Fields.{HasField, line_depth}
 use Rattle.json_fields.specs.Parts.{IsCutList}
 use Rattle.json_fields.proofs.AnswerLemmas.{along, uncut}
-use Rattle.catalog.specs.Configured.{list_depth}
 use Rattle.catalog.specs.Reading.{HasStreams}
 use Rattle.catalog.proofs.ListLemmas.{uncut_list}
 use Rattle.catalog.proofs.NestLemmas.{list_nests}

@@ -1,4 +1,4 @@
-use Rattle.std.proofs.Common.{sym, ◌∙◌, Ok, Err, ap, true, false, ◌≡◌, ◌≢◌, subst, List, ℕ}
+use Rattle.std.proofs.Common.{sym, ◌∙◌, Err, ap, ◌≢◌, subst, List, ℕ}
 use Rattle.json_fields.proofs.AnswerLemmas.{along, true_false}
 use Rattle.stream_index.proofs.IndexLemmas.{same_absent, same_present}
 use Rattle.catalog.specs.Entry.{IsEntry}

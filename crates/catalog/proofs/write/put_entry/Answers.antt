@@ -1,4 +1,4 @@
-use Rattle.std.proofs.Common.{List, ℕ, Option, IfSome, subst, sym, ◌≤◌, arith}
+use Rattle.std.proofs.Common.{List, Option, IfSome, subst, arith}
 use Rattle.json_span.specs.declared.Member.{Member}
 use Rattle.json_fields.specs.Fields.{IsCut, line_depth}
 use Rattle.json_fields.proofs.AnswerLemmas.{uncut}

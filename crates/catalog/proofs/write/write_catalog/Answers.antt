@@ -1,4 +1,4 @@
-use Rattle.std.proofs.Common.{◌≡◌, ◌<◌, ◌≤◌, ◌++◌, [], ◌∷◌, length, List, ℕ, Some, slice_get, sym, ◌∙◌, ap, subst, arith}
+use Rattle.std.proofs.Common.{◌<◌, ◌≤◌, ◌++◌, [], ◌∷◌, length, List, ℕ, sym, ◌∙◌, ap, subst, arith}
 use Rattle.json_fields.specs.Parts.{NestsWithin}
 use Rattle.catalog.specs.Configured.{entry_depth}
 use Rattle.catalog.specs.Written.{GrowsByEntry}

@@ -1,7 +1,6 @@
-use Rattle.std.proofs.Common.{List, length, ◌<◌, subst, ap, sym, ◌∙◌}
+use Rattle.std.proofs.Common.{List, length, ◌<◌, subst, sym}
 use Rattle.basics.specs.declared.limits.TheConstants.{MOST_STREAMS}
 use Rattle.catalog.specs.declared.stream.ConfStream.{ConfStream}
-use Rattle.basics.specs.declared.stream.StreamId.{StreamId}
 use Rattle.catalog.proofs.ConfiguredLemmas.{indexed_more, indexed_again}
 use Rattle.catalog.proofs.configured.Configured.add.Goals as goal
 

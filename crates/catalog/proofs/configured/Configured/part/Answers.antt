@@ -1,4 +1,4 @@
-use Rattle.std.proofs.Common.{◌≡◌, sym, ◌∙◌, ap, subst, ◌<◌, ◌≤◌, ◌++◌, [], ◌∷◌, length, List, Some, slice_get, true, false, arith}
+use Rattle.std.proofs.Common.{sym, ◌∙◌, ap, subst, ◌<◌, ◌≤◌, length, Some, arith}
 use Rattle.json_fields.proofs.AnswerLemmas.{true_false}
 use Rattle.catalog.specs.Configured.{IsConfigured}
 use Rattle.catalog.specs.declared.stream.ConfStream.{ConfStream}
@@ -30,9 +30,9 @@ pub loop-n-preserved : goal.loop-n-preserved
 loop-n-preserved c =
     let lt : c.loop-n.n < length c.args.self.now = let h = c.loop-n-test.true in let e = c.len-n-end.ensures.len in omega arith in
     elim c.if-n-lanes.branch [
-      then-n-lanes+in_ok-stream+in_ok-add+else-not-branch w ↦ (
-        let at = w.stream.ensures.stream ∙ ap (λ (s : ConfStream). Some s) (sym w.in_ok-stream.ensures.copied) in
-        lane_step c.args.lanes c.args.lane c.loop-n.n c.args.self.now c.loop-n.part c.if-n-lanes.part w.in_ok-stream.stream lt w.if-n-lanes.true at c.loop-n.invariant (w.part-is ∙ w.in_ok-add.ensures.added w.if-not-branch.false))
-    | else-n-lanes w ↦
-        w.part-is ∙ lane_skip c.args.lanes c.args.lane c.loop-n.n c.args.self.now c.loop-n.part lt w.if-n-lanes.false c.loop-n.invariant
+      | then-n-lanes+in_ok-stream+in_ok-add+else-not-branch w ↦ (
+          let at = w.stream.ensures.stream ∙ ap (λ (s : ConfStream). Some s) (sym w.in_ok-stream.ensures.copied) in
+          lane_step c.args.lanes c.args.lane c.loop-n.n c.args.self.now c.loop-n.part c.if-n-lanes.part w.in_ok-stream.stream lt w.if-n-lanes.true at c.loop-n.invariant (w.part-is ∙ w.in_ok-add.ensures.added w.if-not-branch.false))
+      | else-n-lanes w ↦
+          w.part-is ∙ lane_skip c.args.lanes c.args.lane c.loop-n.n c.args.self.now c.loop-n.part lt w.if-n-lanes.false c.loop-n.invariant
     ]
