@@ -1,4 +1,3 @@
-pub mod AnswerLemmas
 pub mod EchoLemmas
 pub mod MessageLemmas
 pub mod PartLemmas

@@ -14,9 +14,9 @@ use crate::record_message::record_of;
 use crate::spec_message::spec_of;
 use crate::state_message::state_of;
 use crate::trace_message::trace_of;
+use basics::NoMemory;
 use json_fields::{cut, field, text_field};
 use json_span::{MAX_DEPTH, MemberList};
-use basics::NoMemory;
 use std::alloc::Global;
 
 /// What a line is of.

@@ -4,10 +4,10 @@ ghost use Rattle.json_fields.specs.Answer.{IsAnswer};
 ghost use Rattle.airbyte_message.specs.Messages.{IsRecord};
 
 use crate::RecordMsg;
-use crate::parts::{copied, count_field, object_field, stream_id_of};
-use json_fields::{cut, optional};
-use json_span::MAX_DEPTH;
+use crate::parts::{copied, stream_id_of};
 use basics::{Bytes, NoMemory};
+use json_fields::{count_field, cut, object_field, optional};
+use json_span::MAX_DEPTH;
 use std::alloc::Global;
 
 /// The record that a payload is.

@@ -19,8 +19,8 @@ use Rattle.json_fields.specs.Parts.{HasOptionalCount, IsOptionalCount}
 use Rattle.json_fields.proofs.FieldLemmas.{Holds-only}
 use Rattle.basics.specs.declared.limits.TheConstants.{MOST_STREAMS}
 use Rattle.basics.specs.declared.stream.StreamId.{StreamId}
-use Rattle.catalog.specs.declared.fault.CatalogFault.{CatalogFault}
-use Rattle.catalog.specs.declared.fault.CatalogFault.TheVariants as fault
+use Rattle.outside.specs.declared.faults.CatalogFault.{CatalogFault}
+use Rattle.outside.specs.declared.faults.CatalogFault.TheVariants as fault
 use Rattle.catalog.specs.declared.stream.ConfStream.{ConfStream}
 use Rattle.catalog.specs.declared.entry.Entry.{Entry}
 use Rattle.catalog.specs.declared.entry.Ids.{Ids}

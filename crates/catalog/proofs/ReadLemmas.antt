@@ -4,8 +4,8 @@ use Rattle.std.specs.Result.{IfErr, IsErrAnd}
 use Rattle.json_span.specs.Members.{text_at}
 use Rattle.json_span.specs.declared.Span.{Span}
 use Rattle.json_fields.specs.Answer.{IsAnswer, IsOnly}
-use Rattle.catalog.specs.declared.fault.CatalogFault.{CatalogFault}
-use Rattle.catalog.specs.declared.fault.CatalogFault.TheVariants as fault
+use Rattle.outside.specs.declared.faults.CatalogFault.{CatalogFault}
+use Rattle.outside.specs.declared.faults.CatalogFault.TheVariants as fault
 use Rattle.catalog.specs.declared.stream.ConfStream.{ConfStream}
 use Rattle.catalog.specs.declared.entry.Entry.{Entry}
 use Rattle.std.specs.List.{list_any}

@@ -4,8 +4,8 @@ use Rattle.std.specs.List.{list_any}
 use Rattle.stream_index.specs.Same.{is_same_stream}
 use Rattle.basics.specs.declared.limits.TheConstants.{GREATEST_GENERATION}
 use Rattle.basics.specs.declared.stream.StreamId.{StreamId}
-use Rattle.catalog.specs.declared.fault.CatalogFault.{CatalogFault}
-use Rattle.catalog.specs.declared.fault.CatalogFault.TheVariants as fault
+use Rattle.outside.specs.declared.faults.CatalogFault.{CatalogFault}
+use Rattle.outside.specs.declared.faults.CatalogFault.TheVariants as fault
 use Rattle.catalog.specs.declared.modes.SyncMode.{SyncMode}
 use Rattle.catalog.specs.declared.modes.DestMode.{DestMode}
 use Rattle.catalog.specs.declared.modes.DestMode.TheVariants as dest

@@ -3,8 +3,9 @@ ghost use Rattle.std.specs.Prelude.{◌≡◌, []};
 ghost use Rattle.catalog.specs.Checks.{fault_of, is_above as is_above_limit, is_minimum_above as is_minimum_above_generation, is_too_large as is_id_too_large, judged_alone, lacks_key as lacks_its_key, or_else as or_else_list, unless_empty as unless_empty_path, stream_with};
 
 use crate::entry::{Entry, Ids, StreamPart};
-use crate::{CatalogFault, ConfStream, DestMode, SyncMode};
+use crate::{ConfStream, DestMode, SyncMode};
 use basics::{Bytes, GREATEST_GENERATION, Path, PathList, Sequence, StreamNo};
+use outside::CatalogFault;
 
 // Whether an id is above the limit.
 fn is_above(id: Option<u64>) -> bool

@@ -4,7 +4,6 @@
 
 mod configured;
 mod entry;
-mod fault;
 mod judge;
 mod members;
 mod modes;
@@ -14,7 +13,7 @@ mod stream;
 mod write;
 
 pub use configured::Configured;
-pub use fault::CatalogFault;
+
 pub use modes::{DestMode, SyncMode};
 pub use read::read_configured;
 pub use stream::{ConfStream, Gen, GenList};

@@ -9,10 +9,11 @@ ghost use Rattle.catalog.specs.Reading.{ReadsAs, ReadsEntries, ReadsEntry, Takes
 
 use crate::judge::judged;
 use crate::members::entry_of;
-use crate::{CatalogFault, Configured};
+use crate::Configured;
 use basics::{Bytes, MOST_STREAMS};
 use json_fields::{cut, cut_list, field};
 use json_span::{MAX_DEPTH, Span};
+use outside::CatalogFault;
 use std::alloc::Global;
 
 // Reads one entry, behind those that were read.

@@ -5,5 +5,5 @@ mod Cuts
 pub mod Values
 pub mod Contents
 mod Lexing
-mod Plain
+pub mod Plain
 mod Decoded

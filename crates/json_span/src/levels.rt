@@ -1,20 +1,14 @@
 // Cutting an object and those of its values that are objects, into lists that are kept from text to text.
-use crate::cut::members;
-use crate::{MAX_DEPTH, Member, MemberList, SpanFault};
-use basics::{NoMemory, Sequence};
+use crate::reader::Reader;
+use crate::{MAX_DEPTH, Member, SpanFault};
 use std::alloc::Global;
 use std::marker::Model;
-
-/// What is inside each value of an object, by the index of its member.
-type InnerList = Sequence<Option<MemberList>>;
 
 /// The members of an object, and those of each of its values that is an object. The lists are kept: a next text is
 /// cut in their memory.
 #[derive(Drop)]
 pub struct DeepMembers {
-    alloc: Global,
-    outer: MemberList,
-    inner: InnerList,
+    reader: Reader,
 }
 
 impl Model for DeepMembers {
@@ -23,13 +17,13 @@ impl Model for DeepMembers {
 
     ghost Value = { Levels };
 
-    ghost view = { λ deep. record { outer = deep.outer; inner = deep.inner } };
+    ghost view = { λ deep. record { outer = deep.reader.outside.cutter.members; inner = deep.reader.inner } };
 
-    ghost invariant = { λ deep. length deep.inner ≡ length deep.outer };
+    ghost invariant = { λ deep. length deep.reader.inner ≡ length deep.reader.outside.cutter.members };
 }
 
 impl DeepMembers {
-    ghost use Rattle.std.specs.Prelude.{◌≡◌, ◌<◌, All, IfOk, OnOk, OnErr, IsErrOf, Some, length, slice_get, option_map};
+    ghost use Rattle.std.specs.Prelude.{◌≡◌, ◌<◌, All, OnOk, OnErr, IsErrOf, Some, length, slice_get, option_map};
     ghost use Rattle.json_span.specs.Members.{AreMembers, HasOnlyMembers, IsMemberOf, IsNoObject, IsDeeper};
     ghost use Rattle.json_span.specs.Levels.{no_levels, AreInside};
 
@@ -38,9 +32,7 @@ impl DeepMembers {
         ensures { result ≡ no_levels }
     {
         DeepMembers {
-            alloc,
-            outer: Sequence::new(alloc),
-            inner: Sequence::new(alloc),
+            reader: Reader::new(alloc),
         }
     }
 
@@ -56,23 +48,21 @@ impl DeepMembers {
         ensures never_not_array { ¬ IsErrOf result SpanFault.NotArray }
         ensures emptied { OnErr result (self.new ≡ no_levels) }
     {
-        self.outer = Sequence::new(self.alloc);
-        self.inner = Sequence::new(self.alloc);
-        let outer = match members(self.alloc, text) {
-            Ok(outer) => outer,
-            Err(fault) => return Err(fault),
-        };
-        let inner = cut_values(self.alloc, text, outer.as_slice())?;
-        self.outer = outer;
-        self.inner = inner;
-        Ok(())
+        self.reader.clear();
+        match self.reader.cut(text) {
+            Ok(()) => Ok(()),
+            Err(fault) => {
+                self.reader.clear();
+                Err(fault)
+            }
+        }
     }
 
     /// The members of the object.
     pub fn outer(&self) -> &[Member]
         ensures { result.now ≡ self.now.outer }
     {
-        self.outer.as_slice()
+        self.reader.outside.cutter.members.as_slice()
     }
 
     /// The members of the value at this index, with places from where the value begins; `None` where it is no object.
@@ -80,40 +70,9 @@ impl DeepMembers {
         requires { index < length self.now.outer }
         ensures { slice_get self.now.inner index ≡ Some (option_map (λ members. members.now) result) }
     {
-        match self.inner.at(index) {
+        match self.reader.inner.at(index) {
             Some(members) => Some(members.as_slice()),
             None => None,
         }
-    }
-}
-
-ghost use Rattle.std.specs.Prelude.{◌≡◌, All, IfOk};
-ghost use Rattle.json_span.specs.Members.{IsMemberOf, IsDeeper, text_at};
-ghost use Rattle.json_span.specs.Levels.{IsInside, AreInside, AreShallow};
-
-// What is inside each value.
-fn cut_values(alloc: Global, text: &[u8], outer: &[Member]) -> Result<InnerList, NoMemory>
-    requires parts { All (IsMemberOf text.now) outer.now }
-    requires shallow { AreShallow MAX_DEPTH text.now outer.now }
-    ensures { IfOk result (AreInside MAX_DEPTH text.now outer.now) }
-{
-    let mut inner = Sequence::new(alloc);
-    for member in outer {
-        inner.push(cut_value(alloc, member.value.of(text))?)?;
-    }
-    Ok(inner)
-}
-
-// What is inside a value.
-fn cut_value(alloc: Global, value: &[u8]) -> Result<Option<MemberList>, NoMemory>
-    requires { ¬ IsDeeper MAX_DEPTH value.now }
-    ensures { IfOk result (IsInside MAX_DEPTH value.now) }
-{
-    match members(alloc, value) {
-        Ok(found) => Ok(Some(found)),
-        Err(SpanFault::NotObject) => Ok(None),
-        Err(SpanFault::TooDeep) => unreachable!(),
-        Err(SpanFault::NotArray) => unreachable!(),
-        Err(SpanFault::NoMemory) => Err(NoMemory),
     }
 }

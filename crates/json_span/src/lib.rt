@@ -73,8 +73,10 @@ mod frames;
 mod levels;
 mod machine;
 mod phase;
+mod reader;
 mod skip;
 mod table;
+mod token;
 
 pub use array::{elements, elements_within, is_array};
 pub use cut::{is_object, members, members_within, no_object_in_front};

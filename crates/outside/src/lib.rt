@@ -4,7 +4,10 @@
 mod desk;
 mod event;
 mod fault;
+mod faults;
+mod line;
 mod link;
+mod load;
 mod no_link;
 mod status;
 mod std_desk;
@@ -19,7 +22,10 @@ pub use event::{
     StreamPlan,
 };
 pub use fault::Fault;
+pub use faults::{Breach, CatalogFault, ConfigFault, InputKind, Side, StateFault};
+pub use line::{NumberedRow, NumberedRowList, SeqLine, SeqLineList, StreamIdList};
 pub use link::{Link, LinkCounts, LinkFace, Offered, PollKind, Polled};
+pub use load::{DockCounts, Limits, Load, Marks, MarksList, Unmerged};
 pub use no_link::NoLink;
 pub use status::Status;
 pub use std_desk::StdDesk;

@@ -1,6 +1,6 @@
 use Rattle.std.proofs.Common.{◌≢◌, ◌<◌, List, ℕ, [], length, subst, sym, Err}
 use Rattle.json_span.specs.declared.Span.{Span}
-use Rattle.catalog.specs.declared.fault.CatalogFault.TheVariants as fault
+use Rattle.outside.specs.declared.faults.CatalogFault.TheVariants as fault
 use Rattle.catalog.specs.Configured.{NestsAtMost, entry_depth}
 use Rattle.catalog.specs.Reading.{ReadsEntries}
 use Rattle.catalog.proofs.ReadLemmas.{goes_first, goes_next, goes_wrong, handed_on}

@@ -4,7 +4,7 @@ use Rattle.stream_index.proofs.IndexLemmas.{same_absent, same_present}
 use Rattle.catalog.specs.Entry.{IsEntry}
 use Rattle.catalog.specs.Checks.{judged_alone}
 use Rattle.catalog.specs.Reading.{ReadsEntry, ids_of}
-use Rattle.catalog.specs.declared.fault.CatalogFault.TheVariants as fault
+use Rattle.outside.specs.declared.faults.CatalogFault.TheVariants as fault
 use Rattle.catalog.proofs.ReadLemmas.{entry_missing, entry_fails, entry_twice, entry_taken, stream_configured, wanting, handed_on}
 use Rattle.catalog.proofs.read.read_entry.Goals as goal
 
