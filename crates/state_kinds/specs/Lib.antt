@@ -1,5 +1,0 @@
-pub mod Saved
-pub mod Changes
-pub mod Texts
-pub mod Store
-pub mod StateLists
