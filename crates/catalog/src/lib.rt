@@ -13,7 +13,6 @@ mod stream;
 mod write;
 
 pub use configured::Configured;
-
 pub use modes::{DestMode, SyncMode};
 pub use read::read_configured;
 pub use stream::{ConfStream, Gen, GenList};

@@ -7,9 +7,9 @@ ghost use Rattle.basics.specs.declared.limits.TheConstants.{MOST_STREAMS};
 ghost use Rattle.catalog.specs.Configured.{entry_depth, list_depth, NestsAtMost};
 ghost use Rattle.catalog.specs.Reading.{ReadsAs, ReadsEntries, ReadsEntry, TakesEntry};
 
+use crate::Configured;
 use crate::judge::judged;
 use crate::members::entry_of;
-use crate::Configured;
 use basics::{Bytes, MOST_STREAMS};
 use json_fields::{cut, cut_list, field};
 use json_span::{MAX_DEPTH, Span};

@@ -4,7 +4,8 @@ use catalog::{DestMode, Gen, SyncMode, read_configured, write_catalog};
 use std::alloc::Global;
 use std::test::Fail;
 
-const USERS: &str = r#"{"streams":[{"stream":{"name":"users","json_schema":{"type":"object","properties":{"id":{"type":"integer"},"name":{"type":["null","string"]},"updated_at":{"type":["null","string"],"format":"date-time"}}},"supported_sync_modes":["full_refresh","incremental"]},"sync_mode":"incremental","destination_sync_mode":"append_dedup","cursor_field":["updated_at"],"primary_key":[["id"]]}]}"#;
+const USERS: &str =
+    r#"{"streams":[{"stream":{"name":"users","json_schema":{"type":"object","properties":{"id":{"type":"integer"},"name":{"type":["null","string"]},"updated_at":{"type":["null","string"],"format":"date-time"}}},"supported_sync_modes":["full_refresh","incremental"]},"sync_mode":"incremental","destination_sync_mode":"append_dedup","cursor_field":["updated_at"],"primary_key":[["id"]]}]}"#;
 
 fn id_of(alloc: Global, name: &str, namespace: Option<&str>) -> Result<StreamId, NoMemory> {
     let namespace = match namespace {

@@ -19,7 +19,10 @@ fn a_text_has_its_first_fault(rt: HostRuntime) -> Result<(), Fail> {
         ("", Some(CatalogFault::NotJson)),
         (r#"{"streams":{}}"#, Some(CatalogFault::NotJson)),
         (r#"{"streams":[]}"#, None),
-        (r#"{"streams":[5]}"#, Some(CatalogFault::Missing { stream: 0 })),
+        (
+            r#"{"streams":[5]}"#,
+            Some(CatalogFault::Missing { stream: 0 }),
+        ),
         (
             r#"{"streams":[{"stream":{"name":"a"},"sync_mode":"x","destination_sync_mode":"append"}]}"#,
             Some(CatalogFault::BadMode { stream: 0 }),
@@ -74,7 +77,9 @@ fn names_and_catalogs_have_limits(rt: HostRuntime) -> Result<(), Fail> {
         (65_537, Some(CatalogFault::Missing { stream: 0 })),
     ] {
         let mut text = Bytes::new(rt.alloc());
-        text.extend(br#"{"streams":[{"sync_mode":"incremental","destination_sync_mode":"append","stream":{"name":""#)?;
+        text.extend(
+            br#"{"streams":[{"sync_mode":"incremental","destination_sync_mode":"append","stream":{"name":""#,
+        )?;
         for _ in 0..bytes {
             text.push(b'a')?;
         }
