@@ -2,3 +2,9 @@ pub mod Event
 pub mod Desk
 pub mod Link
 pub mod Status
+pub mod Winners
+pub mod WinnerMap
+pub mod Tables
+pub mod Hand
+pub mod Dock
+pub mod ByteStreams

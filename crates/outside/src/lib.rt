@@ -1,25 +1,40 @@
 //! What every crate of the worker shares: byte texts, names, lists, events, statuses, and the traits of the outside.
 #![tactic(auto)]
 
+mod byte_streams;
 mod desk;
+mod dock;
 mod event;
 mod fault;
+mod line;
 mod link;
+mod load;
 mod no_link;
+mod row_copies;
 mod status;
 mod std_desk;
+mod table;
+mod winners;
 
 pub use basics::{
     Boxed, Bytes, BytesList, Copies, FailList, Name, NoMemory, Path, PathList, RoomySequence,
     Sequence, StreamId, StreamNo,
 };
+pub use byte_streams::{Sink, Source};
 pub use desk::Desk;
+pub use dock::{Dock, DockTally, HandDock};
 pub use event::{
     AskKind, AttemptPlan, Codes, Event, EventList, Exit, Job, LoadPlan, RawRow, RawRowList,
     StreamPlan,
 };
 pub use fault::Fault;
+pub use line::StreamIdList;
 pub use link::{Link, LinkCounts, LinkFace, Offered, PollKind, Polled};
+pub use load::{DockCounts, Load, Marks, MarksList, Unmerged};
 pub use no_link::NoLink;
 pub use status::Status;
 pub use std_desk::StdDesk;
+pub use table::{
+    Generations, PlacedRow, PlacedRowList, StreamTable, StreamTableList, TableSide, Tables,
+};
+pub use winners::Winners;

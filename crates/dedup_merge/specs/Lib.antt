@@ -1,0 +1,3 @@
+pub mod Cursors
+pub mod Winners
+pub mod Pages
