@@ -18,9 +18,9 @@ ReadsTold count room now (Some bytes) left = ReadsFront count room now bytes lef
 -- what a read did; where it did not succeed, what is still to come stays
 abbrev pub Reads : Result ℕ Fault → List ℕ → List ℕ → Option (List ℕ) → Option (List ℕ) → Type 0
 Reads (Ok count) room now before left = ReadsTold count room now before left
-Reads (Err failed) room now before left = left ≡ before
+Reads (Err why) room now before left = left ≡ before
 
 -- a write failed, or took nothing of a piece that is not empty
 abbrev pub WriteFails : Result ℕ Fault → List ℕ → Type 0
 WriteFails (Ok count) piece = (count ≡ 0) × (0 < length piece)
-WriteFails (Err failed) piece = failed ≡ fault.Failed
+WriteFails (Err why) piece = why ≡ fault.Failed

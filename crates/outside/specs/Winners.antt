@@ -19,3 +19,8 @@ put_winners winners rows = fold put_winner winners rows
 abbrev pub winner_in : List RawRow → List ℕ → Option RawRow
 winner_in [] key = None
 winner_in (winner ∷ winners) key = if bytes_eq winner.key key then Some winner else winner_in winners key
+
+-- the winners with rows that wait to be put in their places, of which the last comes next
+abbrev pub still_waiting : List RawRow → List RawRow → List RawRow
+still_waiting winners [] = winners
+still_waiting winners (row ∷ rows) = put_winner (still_waiting winners rows) row

@@ -14,6 +14,7 @@ mod row_copies;
 mod status;
 mod std_desk;
 mod table;
+mod winner_map;
 mod winners;
 
 pub use basics::{
