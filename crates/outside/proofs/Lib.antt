@@ -1,2 +1,4 @@
 pub mod WinnerLaws
 pub mod WinnerMapLemmas
+pub mod ToldLaws
+pub mod DockLaws

@@ -1,5 +1,5 @@
 -- What a dock tells, and what each of its calls adds.
-use Rattle.std.specs.Prelude.{◌≡◌, ◌⊎◌, ℕ, ◌+◌, ◌-◌, ◌^◌, ◌<◌, ◌≤◌, min, List, [], ◌∷◌, ◌++◌, map, fold, length, slice_set, Bool, true, false, IsTrue, if◌then◌else◌, nat_lt, Option, None, Some, option_map, IfSome, Result, Ok, Err}
+use Rattle.std.specs.Prelude.{◌≡◌, ◌⊎◌, ℕ, ◌+◌, ◌-◌, ◌^◌, ◌<◌, ◌≤◌, min, max, List, [], ◌∷◌, ◌++◌, map, fold, length, slice_set, Bool, true, false, IsTrue, if◌then◌else◌, nat_lt, Option, None, Some, option_map, IfSome, Result, Ok, Err}
 use Rattle.std.specs.List.{AllByRecursion}
 use Rattle.basics.specs.Told.{told_by, told_more, Rose, RoseIf}
 use Rattle.basics.specs.declared.limits.TheConstants.{LONGEST_LINE}
@@ -139,18 +139,21 @@ HasOwnIds (plan ∷ plans) = AllByRecursion (HasOtherId plan.id) plans × HasOwn
 abbrev pub opening : ℕ → List StreamPlan → List Event → List Event
 opening moment plan events = Opened ((tables_of events).load + 1) moment plan ∷ []
 
-pub record AddsOpened (plan : List StreamPlan) (before now : Option (List Event)) : Type 0 where
+pub record AddsOpened (plan : List StreamPlan) (fixed : Option ℕ) (before now : Option (List Event)) : Type 0 where
   pub moment : ℕ
+  pub fixed_is : IfSome fixed (λ at. moment ≡ at)
   pub added : now ≡ told_by (opening moment plan) before
 
-pub record OpenedAs (load : Load) (plan : List StreamPlan) (before now : Option (List Event)) : Type 0 where
+pub record OpenedAs (load : Load) (plan : List StreamPlan) (fixed : Option ℕ) (before now : Option (List Event)) : Type 0 where
+  pub fixed_is : IfSome fixed (λ at. load.moment ≡ at)
   pub added : now ≡ told_by (opening load.moment plan) before
   pub number : IfSome before (λ events. load.load ≡ (tables_of events).load + 1)
 
-abbrev pub OpenAdds : Result Load Fault → List StreamPlan → Option (List Event) → Option (List Event) → Type 0
-OpenAdds (Ok load) plan before now = OpenedAs load plan before now
-OpenAdds (Err fault.Failed) plan before now = (now ≡ before) ⊎ AddsOpened plan before now
-OpenAdds (Err fault.NoMemory) plan before now = now ≡ before
+-- a load was opened, at the moment that is fixed where there is one; at Failed it was or was not
+abbrev pub OpenAdds : Result Load Fault → List StreamPlan → Option ℕ → Option (List Event) → Option (List Event) → Type 0
+OpenAdds (Ok load) plan fixed before now = OpenedAs load plan fixed before now
+OpenAdds (Err fault.Failed) plan fixed before now = (now ≡ before) ⊎ AddsOpened plan fixed before now
+OpenAdds (Err fault.NoMemory) plan fixed before now = now ≡ before
 
 abbrev pub IsPlace : ℕ → Type 0
 IsPlace mark = mark < 2 ^ 63
@@ -172,14 +175,15 @@ OpenFace (Err fault) plan before now = now ≡ before
 
 -- Reading
 
--- a number that stands still at its type's end rose by so much
+-- a number that never falls, and stands still at its type's end, rose by so much
 abbrev pub RoseExactlyBy : ℕ → ℕ → ℕ → Type 0
-RoseExactlyBy n before now = now ≡ min (before + n) (2 ^ 64 - 1)
+RoseExactlyBy n before now = now ≡ max before (min (before + n) (2 ^ 64 - 1))
 
--- what is known of a page of every dock: behind a mark, of at most so many rows
+-- what is known of a page of every dock: behind a mark, which stays where there is no row, and of at most so many rows
 pub record IsPage (mark most : ℕ) (page : Unmerged) : Type 0 where
   pub place : IsPlace page.mark
   pub above : 0 < length page.rows → mark < page.mark
+  pub none : length page.rows ≡ 0 → page.mark ≡ mark
   pub more : IsTrue page.more → 0 < length page.rows
   pub capped : length page.rows ≤ most
 

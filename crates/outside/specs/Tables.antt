@@ -61,13 +61,13 @@ abbrev pub is_from_to : ℕ → ℕ → ℕ → Bool
 is_from_to low high generation = nat_le low generation && nat_le generation high
 
 -- The range of the shown side is floor to top; where there is no top, nothing lies in it.
-abbrev pub is_shown : ℕ → Option ℕ → ℕ → Bool
-is_shown floor None generation = false
-is_shown floor (Some top) generation = is_from_to floor top generation
+abbrev pub is_in_shown : ℕ → Option ℕ → ℕ → Bool
+is_in_shown floor None generation = false
+is_in_shown floor (Some top) generation = is_from_to floor top generation
 
 -- the range of the load's side; that of a hidden side is minimum to generation
 abbrev pub is_in_range : StreamPlan → Marks → ℕ → Bool
-is_in_range plan marks generation = if plan.hidden then is_from_to plan.minimum plan.generation generation else is_shown marks.floor marks.top generation
+is_in_range plan marks generation = if plan.hidden then is_from_to plan.minimum plan.generation generation else is_in_shown marks.floor marks.top generation
 
 -- Opening a load
 

@@ -13,7 +13,8 @@ pub trait Source {
     /// How often a read failed.
     ghost faults: { Self → ℕ };
 
-    /// Reads bytes into the front of the room, and answers how many; 0 is the end. What is left of the room stays.
+    /// Reads bytes into the front of the room, and answers how many; 0 is the end. Where the bytes are told, what is
+    /// left of the room stays.
     fn read(&mut self, room: &mut [u8]) -> Result<u32, Fault>
         requires some { 0 < length room.old }
         requires small { length room.old < 2 ^ 32 }

@@ -74,14 +74,13 @@ pub trait Dock {
         ensures faults { RoseIf (IsErrOf result Fault.Failed) (seen self.old).counts.store_faults (seen self.new).counts.store_faults }
         ensures counts { (seen self.new).counts ≡ record ((seen self.old).counts) { store_faults = (seen self.new).counts.store_faults } };
 
-    /// Opens a load of these streams. Its number is one above that of the last. At `Failed` the load may be open, but
-    /// its streams are not known.
+    /// Opens a load of these streams. Its number is one above that of the last. At `Failed` the load may be open, and
+    /// what is known of the streams is that of the load before: the next call on streams is `open_load` again.
     fn open_load(&mut self, plan: &LoadPlan) -> Result<Load, Fault>
         requires { HasOwnIds plan.now }
         ensures grew { DockGrew (seen self.old) (seen self.new) }
-        ensures events { OpenAdds result plan.now (dock_events (seen self.old)) (dock_events (seen self.new)) }
+        ensures events { OpenAdds result plan.now (seen self.old).face.moment (dock_events (seen self.old)) (dock_events (seen self.new)) }
         ensures face { OpenFace result plan.now (seen self.old).face (seen self.new).face }
-        ensures moment { IfOk result (λ load. IfSome (seen self.old).face.moment (λ moment. load.moment ≡ moment)) }
         ensures side_marks { IfOk result (λ _. IfSome (tables (seen self.new)) (λ store. (seen self.new).face.side_marks ≡ side_marks_of store)) }
         ensures rows_read { (seen self.new).rows_read ≡ (seen self.old).rows_read }
         ensures faults { RoseIf (IsErrOf result Fault.Failed) (seen self.old).counts.store_faults (seen self.new).counts.store_faults }
@@ -178,7 +177,6 @@ pub trait HandDock: Dock {
 
     /// Ends the input, with a last piece that has no newline. A blank one is nothing.
     fn close_input(&mut self, torn: Option<Bytes>)
-        requires { IsOpen (Self.seen self.old).face.hand }
         ensures { Self.seen self.new ≡ with_hand (hand_closed torn) (Self.seen self.old) };
 
     /// The next emitted line that was not taken out; `None` exactly where there is none.

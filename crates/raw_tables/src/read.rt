@@ -1,7 +1,7 @@
 // What is read of tables.
 ghost use Rattle.std.specs.Prelude.{◌≡◌, ◌<◌, map, length, IfOk};
 ghost use Rattle.std.specs.Option.{option_copied};
-ghost use Rattle.outside.specs.Tables.{marks_in, page_of, page_in, winner_of, side_of, is_unmerged, is_in_range, is_shown, is_from_to, shown_event, shown_table, shown_marks};
+ghost use Rattle.outside.specs.Tables.{marks_in, page_of, page_in, winner_of, side_of, is_unmerged, is_in_range, is_in_shown, is_from_to, shown_event, shown_table, shown_marks};
 ghost use Rattle.outside.specs.declared.table.StreamTable.{StreamTable};
 
 use crate::change::FIRST_MARKS;
@@ -35,7 +35,7 @@ pub fn read_marks(alloc: Global, tables: &Tables, ids: &[StreamId]) -> Result<Ma
 
 /// Whether a generation lies between floor and top.
 pub fn is_between(marks: &Marks, generation: u64) -> bool
-    ensures { result ≡ is_shown marks.now.floor marks.now.top generation }
+    ensures { result ≡ is_in_shown marks.now.floor marks.now.top generation }
 {
     match marks.top {
         None => false,
