@@ -339,8 +339,10 @@ impl Dock for MemDock {
         if self.calls.is_failing() {
             return Err(self.fail_store());
         }
-        let merged = self.store.merge(self.alloc, stream, winners, mark, self.tally);
-        Ok(merged?)
+        Ok(
+            self.store
+                .merge(self.alloc, stream, winners, mark, self.tally)?,
+        )
     }
 
     #[tactic(auto, using(crate::proofs::DockLemmas::grew_same, crate::proofs::DockLemmas::grew_event, crate::proofs::DockLemmas::events_added, crate::proofs::MoveLemmas::moves_same, crate::proofs::MoveLemmas::moves_still))]
@@ -364,7 +366,9 @@ impl Dock for MemDock {
 }
 
 impl HandDock for MemDock {
-    ghost in_memory = { λ dock. tt };
+    ghost use Rattle.std.specs.Prelude.{refl};
+
+    ghost in_memory = { λ dock. refl };
 
     fn push_input(&mut self, line: Bytes) -> Result<(), NoMemory> {
         self.waiting.push_back(line)?;
