@@ -1,5 +1,5 @@
 -- What a merge of one page does.
-use Rattle.std.specs.Prelude.{◌≡◌, ◌⊎◌, ◌↔◌, ℕ, ◌+◌, ◌*◌, List, [], ◌∷◌, ◌++◌, length, drop, Bool, true, false, Option, None, Some, IfSome, Result, Ok, Err}
+use Rattle.std.specs.Prelude.{◌≡◌, ◌⊎◌, ◌↔◌, ℕ, ◌+◌, ◌*◌, List, [], ◌∷◌, ◌++◌, length, drop, option_to_list, slice_set, Bool, true, false, Option, None, Some, IfSome, Result, Ok, Err}
 use Rattle.basics.specs.Told.{told_more}
 use Rattle.outside.specs.declared.event.Event.TheVariants as event
 use Rattle.outside.specs.declared.event.RawRow.{RawRow}
@@ -8,8 +8,8 @@ use Rattle.outside.specs.declared.table.PlacedRow.{PlacedRow}
 use Rattle.outside.specs.declared.table.Tables.{Tables}
 use Rattle.outside.specs.Dock.{DockSeen, dock_events, tables, ReadAtMost}
 use Rattle.outside.specs.Tables.{page_of, plan_at, winners_at, unmerged_in, table_in}
-use Rattle.outside.specs.Winners.{put_winners}
-use Rattle.dedup_merge.specs.Winners.{AreWinnersOf, key_count}
+use Rattle.outside.specs.Winners.{put_winners, winner_in}
+use Rattle.dedup_merge.specs.Winners.{WinsAmong, rows_of_key, key_count}
 use Rattle.dedup_merge.specs.declared.pages.Merged.{Merged}
 use Rattle.dedup_merge.specs.declared.pages.Merged.TheVariants as merged
 use Rattle.dedup_merge.specs.declared.pages.MergeFault.{MergeFault}
@@ -23,9 +23,9 @@ unmerged_for (Some plan) store = unmerged_in plan (table_in store.streams plan.i
 abbrev pub unmerged_at : Tables → ℕ → List PlacedRow
 unmerged_at store stream = unmerged_for (plan_at store stream) store
 
--- Whatever rows the side's winners were those of, they are now those of these rows and the page's.
+-- Of each key the winner is now that among the winner before and the page's rows of the key.
 abbrev pub TakesIn : List RawRow → List RawRow → List RawRow → Type 0
-TakesIn page before now = (rows : List RawRow) → AreWinnersOf rows before → AreWinnersOf (rows ++ page) now
+TakesIn page before now = (key : List ℕ) → WinsAmong (option_to_list (winner_in before key) ++ rows_of_key key page) (winner_in now key)
 
 -- these winners take in the next page, and the mark moves over exactly that page
 pub record IsPageMerge (store : Tables) (stream most : ℕ) (written : List RawRow) (mark : ℕ) : Type 0 where
@@ -39,10 +39,24 @@ pub record MergesPage (stream most : ℕ) (old new : DockSeen) : Type 0 where
   pub added : dock_events new ≡ told_more (event.Merged stream written mark ∷ []) (dock_events old)
   pub merge : IfSome (tables old) (λ store. IsPageMerge store stream most written mark)
 
+-- The page was merged, and the side's mark is at its end. At a fault it was merged or not, and what is known of the
+-- sides is that from before.
+pub record PageDone (stream most : ℕ) (old new : DockSeen) : Type 0 where
+  pub merges : MergesPage stream most old new
+  pub face : new.face ≡ record (old.face) { side_marks = slice_set old.face.side_marks stream merges.mark }
+
+pub record PageFailed (stream most : ℕ) (old new : DockSeen) : Type 0 where
+  pub merges : (dock_events new ≡ dock_events old) ⊎ MergesPage stream most old new
+  pub face : new.face ≡ old.face
+
+pub record PageLeft (old new : DockSeen) : Type 0 where
+  pub events : dock_events new ≡ dock_events old
+  pub face : new.face ≡ old.face
+
 abbrev pub PageAdds : Result Merged MergeFault → ℕ → ℕ → DockSeen → DockSeen → Type 0
-PageAdds (Ok done) stream most old new = MergesPage stream most old new
-PageAdds (Err fault.StoreFault) stream most old new = (dock_events new ≡ dock_events old) ⊎ MergesPage stream most old new
-PageAdds (Err fault.NoMemory) stream most old new = dock_events new ≡ dock_events old
+PageAdds (Ok done) stream most old new = PageDone stream most old new
+PageAdds (Err fault.StoreFault) stream most old new = PageFailed stream most old new
+PageAdds (Err fault.NoMemory) stream most old new = PageLeft old new
 
 -- rows are left exactly where others follow the page
 abbrev pub IsAnswer : Merged → Bool → Type 0

@@ -1,5 +1,5 @@
 -- Winners: of each key the row that no other row of that key exceeds in cursor, load and sequence.
-use Rattle.std.specs.Prelude.{◌≡◌, ◌≢◌, ℕ, ◌+◌, List, [], ◌∷◌, ◌++◌, map, filter, Bool, true, false, not, IsSome, if◌then◌else◌}
+use Rattle.std.specs.Prelude.{◌≡◌, ◌≢◌, ℕ, ◌+◌, List, [], ◌∷◌, ◌++◌, map, filter, Bool, true, false, not, Option, None, Some, IsSome, if◌then◌else◌}
 use Rattle.std.specs.declared.cmp.Ordering.{Ordering}
 use Rattle.std.specs.declared.cmp.Ordering.TheVariants.{Less, Greater}
 use Rattle.std.specs.List.{AllByRecursion}
@@ -56,8 +56,8 @@ pub record AreWinners (candidates : List Candidate) (winners : List RawRow) : Ty
 
 -- Winners of rows
 
-abbrev pub row_of : Candidate → RawRow
-row_of candidate = candidate.row
+abbrev pub candidate_row : Candidate → RawRow
+candidate_row candidate = candidate.row
 
 -- rows with an empty key take no part
 abbrev pub has_key : RawRow → Bool
@@ -65,9 +65,28 @@ has_key row = not (bytes_eq row.key [])
 
 pub record AreWinnersOf (rows winners : List RawRow) : Type 0 where
   pub candidates : List Candidate
-  pub rows_are : map row_of candidates ≡ filter has_key rows
+  pub rows_are : map candidate_row candidates ≡ filter has_key rows
   pub cursors : AllByRecursion HasCursor candidates
   pub winners_are : AreWinners candidates winners
+
+-- The winner among rows of one key
+
+pub record IsWinnerAmong (rows : List RawRow) (winner : RawRow) : Type 0 where
+  pub candidates : List Candidate
+  pub rows_are : map candidate_row candidates ≡ rows
+  pub cursors : AllByRecursion HasCursor candidates
+  pub wins : IsWinner candidates winner
+
+-- there is none exactly where there is no row
+abbrev pub WinsAmong : List RawRow → Option RawRow → Type 0
+WinsAmong rows None = rows ≡ []
+WinsAmong rows (Some winner) = IsWinnerAmong rows winner
+
+abbrev pub has_this_key : List ℕ → RawRow → Bool
+has_this_key key row = bytes_eq row.key key
+
+abbrev pub rows_of_key : List ℕ → List RawRow → List RawRow
+rows_of_key key rows = filter (has_this_key key) rows
 
 -- how many keys there are among rows: a key counts where it stands last
 abbrev pub count_if_last : Bool → ℕ → ℕ
