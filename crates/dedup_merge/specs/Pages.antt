@@ -23,9 +23,14 @@ unmerged_for (Some plan) store = unmerged_in plan (table_in store.streams plan.i
 abbrev pub unmerged_at : Tables → ℕ → List PlacedRow
 unmerged_at store stream = unmerged_for (plan_at store stream) store
 
--- Of each key the winner is now that among the winner before and the page's rows of the key.
+-- Of each key that the page has, the winner is now that among the winner before and the page's rows of the key. Every
+-- other key keeps its winner.
+abbrev pub NowWins : Option RawRow → List RawRow → Option RawRow → Type 0
+NowWins before [] now = now ≡ before
+NowWins before (row ∷ rows) now = WinsAmong (option_to_list before ++ row ∷ rows) now
+
 abbrev pub TakesIn : List RawRow → List RawRow → List RawRow → Type 0
-TakesIn page before now = (key : List ℕ) → WinsAmong (option_to_list (winner_in before key) ++ rows_of_key key page) (winner_in now key)
+TakesIn page before now = (key : List ℕ) → NowWins (winner_in before key) (rows_of_key key page) (winner_in now key)
 
 -- these winners take in the next page, and the mark moves over exactly that page
 pub record IsPageMerge (store : Tables) (stream most : ℕ) (written : List RawRow) (mark : ℕ) : Type 0 where
@@ -54,7 +59,7 @@ pub record PageLeft (old new : DockSeen) : Type 0 where
   pub face : new.face ≡ old.face
 
 abbrev pub PageAdds : Result Merged MergeFault → ℕ → ℕ → DockSeen → DockSeen → Type 0
-PageAdds (Ok done) stream most old new = PageDone stream most old new
+PageAdds (Ok answer) stream most old new = PageDone stream most old new
 PageAdds (Err fault.StoreFault) stream most old new = PageFailed stream most old new
 PageAdds (Err fault.NoMemory) stream most old new = PageLeft old new
 

@@ -5,6 +5,6 @@ mod candidate;
 mod pages;
 mod rows;
 
-pub use candidate::Candidate;
+pub use candidate::{cursor_value, exceeds};
 pub use pages::{MergeFault, Merged, merge_page};
 pub use rows::winners;
