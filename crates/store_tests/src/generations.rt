@@ -22,10 +22,10 @@ fn rows_of_the_old_generation_are_seen_until_the_new_ones_are_shown(rt: HostRunt
     load(&mut dock, &plan_of(alloc, 1, 0, false)?, &rows_of(alloc, &[stamp(1, 1)])?)?;
     for number in 2..4 {
         load(&mut dock, &plan_of(alloc, 2, 2, true)?, &rows_of(alloc, &[stamp(number, 2)])?)?;
-        assert_eq!(rt; seen(alloc, &dock)?.as_slice(), &[(1, 0)]);
+        assert_eq!(rt; seen(alloc, &dock)?.as_slice(), [(1, 0)].as_slice());
     }
     dock.show(0)?;
-    assert_eq!(rt; seen(alloc, &dock)?.as_slice(), &[(2, 0), (3, 0)]);
+    assert_eq!(rt; seen(alloc, &dock)?.as_slice(), [(2, 0), (3, 0)].as_slice());
     Ok(())
 }
 
@@ -36,9 +36,9 @@ fn a_stream_that_restarts_shows_the_rows_of_its_last_generation_alone(rt: HostRu
     load(&mut dock, &plan_of(alloc, 1, 0, false)?, &rows_of(alloc, &[stamp(1, 1)])?)?;
     load(&mut dock, &plan_of(alloc, 2, 2, true)?, &rows_of(alloc, &[stamp(2, 2)])?)?;
     load(&mut dock, &plan_of(alloc, 3, 3, true)?, &rows_of(alloc, &[stamp(3, 3)])?)?;
-    assert_eq!(rt; seen(alloc, &dock)?.as_slice(), &[(1, 0)]);
+    assert_eq!(rt; seen(alloc, &dock)?.as_slice(), [(1, 0)].as_slice());
     dock.show(0)?;
-    assert_eq!(rt; seen(alloc, &dock)?.as_slice(), &[(3, 0)]);
+    assert_eq!(rt; seen(alloc, &dock)?.as_slice(), [(3, 0)].as_slice());
     Ok(())
 }
 

@@ -29,7 +29,7 @@ fn a_page_reads_its_rows_and_one_winner_for_each_key(rt: HostRuntime) -> Result<
         assert_eq!(rt; dock.rows_read(), read);
     }
     let seen = raw_tables::visible(alloc, dock.tables(), &stream_a(alloc)?, true)?;
-    assert_eq!(rt; stamps_of(alloc, &seen)?.as_slice(), &[(1, 2), (1, 1), (1, 3)]);
+    assert_eq!(rt; stamps_of(alloc, &seen)?.as_slice(), [(1, 2), (1, 1), (1, 3)].as_slice());
     Ok(())
 }
 
@@ -43,6 +43,6 @@ fn of_two_rows_of_one_key_the_greater_cursor_wins_and_a_second_merge_reads_nothi
         assert_eq!(rt; dock.rows_read(), 2);
     }
     let seen = raw_tables::visible(alloc, dock.tables(), &stream_a(alloc)?, true)?;
-    assert_eq!(rt; stamps_of(alloc, &seen)?.as_slice(), &[(1, 1)]);
+    assert_eq!(rt; stamps_of(alloc, &seen)?.as_slice(), [(1, 1)].as_slice());
     Ok(())
 }

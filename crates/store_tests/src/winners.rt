@@ -9,9 +9,9 @@ fn of_equal_cursors_the_later_load_and_then_the_later_sequence_wins(rt: HostRunt
     let alloc = rt.alloc();
     let row = |load, seq| Stamp { load, seq, generation: 0, key: K, cursor: b"n" };
     let won = dedup_merge::winners(alloc, &rows_of(alloc, &[row(1, 5), row(1, 3)])?)?;
-    assert_eq!(rt; stamps_of(alloc, &won)?.as_slice(), &[(1, 5)]);
+    assert_eq!(rt; stamps_of(alloc, &won)?.as_slice(), [(1, 5)].as_slice());
     let won = dedup_merge::winners(alloc, &rows_of(alloc, &[row(1, 3), row(2, 0), row(1, 5)])?)?;
-    assert_eq!(rt; stamps_of(alloc, &won)?.as_slice(), &[(2, 0)]);
+    assert_eq!(rt; stamps_of(alloc, &won)?.as_slice(), [(2, 0)].as_slice());
     Ok(())
 }
 
@@ -34,7 +34,7 @@ fn a_null_cursor_is_below_every_other_and_a_text_of_no_value_counts_as_null(rt: 
             ],
         )?;
         let won = dedup_merge::winners(alloc, &rows)?;
-        assert_eq!(rt; stamps_of(alloc, &won)?.as_slice(), &[wins]);
+        assert_eq!(rt; stamps_of(alloc, &won)?.as_slice(), [wins].as_slice());
     }
     Ok(())
 }
@@ -45,6 +45,6 @@ fn winners_stand_in_order_of_their_keys_and_an_empty_key_takes_no_part(rt: HostR
     let row = |seq, key| Stamp { load: 1, seq, generation: 0, key, cursor: b"n" };
     let rows = rows_of(alloc, &[row(0, b"b".as_slice()), row(1, b"".as_slice()), row(2, b"a".as_slice()), row(3, b"ab".as_slice())])?;
     let won = dedup_merge::winners(alloc, &rows)?;
-    assert_eq!(rt; stamps_of(alloc, &won)?.as_slice(), &[(1, 2), (1, 3), (1, 0)]);
+    assert_eq!(rt; stamps_of(alloc, &won)?.as_slice(), [(1, 2), (1, 3), (1, 0)].as_slice());
     Ok(())
 }
