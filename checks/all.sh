@@ -1,6 +1,6 @@
 #!/usr/bin/env bash
-# Runs the checks over the worker that the gate has built, or builds it: a file of real messages where that is at hand, and
-# random JSON texts where python3 is. Each check that cannot run says so and is passed over.
+# Runs the checks over the worker that the gate has built, or builds it: the program's edge, a file of real messages where
+# that is at hand, and random JSON texts where python3 is. Each check that cannot run says so and is passed over.
 set -u
 cd "$(dirname "${BASH_SOURCE[0]}")/.." || exit 2
 
@@ -10,6 +10,7 @@ if [ ! -x "$worker" ] && ! (cd crates/airbyte_worker && rt run -- local --messag
     exit 1
 fi
 failed=0
+checks/ends.sh "$worker" || failed=1
 checks/zones.sh "$worker" ../shared/data || failed=1
 if command -v python3 >/dev/null 2>&1; then
     python3 checks/random_objects.py "$worker" || failed=1

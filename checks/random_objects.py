@@ -3,8 +3,9 @@
 
 usage: random_objects.py PROGRAM [COUNT [SEED]]
 
-Each text is the `data` of a RECORD line. Where it is an object, the run must end with status 0 and say the text as it
-stood; else the run must refuse line 1. What is judged otherwise than by Python's `json` is written in `judge` below.
+Each text is the `data` of a RECORD line. Where it is an object, the worker must take the line as a record and say the text
+as it stood; else the line is no message, and must be passed over and said whole behind `source: `. Either way the run ends
+with status 0. What is judged otherwise than by Python's `json` is written in `judge` below.
 """
 import json
 import os

@@ -6,7 +6,8 @@ use Rattle.json_span.specs.declared.Member.{Member}
 use Rattle.basics.specs.declared.stream.StreamId.{StreamId}
 use Rattle.json_fields.specs.Answer.{IsAnswer, IsOnly}
 use Rattle.json_fields.specs.Fields.{HasField, HasOptional, HasText, HasOptionalText, line_depth}
-use Rattle.airbyte_message.specs.Parts.{HasCount, HasObject, HasArray, IsStreamId}
+use Rattle.json_fields.specs.Parts.{HasCount, HasObject, HasArray}
+use Rattle.airbyte_message.specs.Parts.{IsStreamId}
 use Rattle.airbyte_message.specs.Words.{level_text, connection_text, type_text, payload_text}
 use Rattle.airbyte_message.specs.States.{IsState}
 use Rattle.airbyte_message.specs.Traces.{IsTrace}
@@ -24,7 +25,7 @@ use Rattle.airbyte_message.specs.declared.message.TraceMsg.{TraceMsg}
 use Rattle.airbyte_message.specs.declared.message.ControlMsg.{ControlMsg}
 use Rattle.airbyte_message.specs.declared.read.MessageType.{MessageType}
 use Rattle.airbyte_message.specs.declared.read.MessageType.TheVariants as types
-use Rattle.airbyte_message.proofs.AnswerLemmas.{both, wrapped}
+use Rattle.json_fields.proofs.AnswerLemmas.{both, wrapped}
 
 -- a record
 abbrev pub record_msg : StreamId → List ℕ → ℕ → Option (List ℕ) → RecordMsg

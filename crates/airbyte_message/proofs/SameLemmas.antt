@@ -1,7 +1,7 @@
 -- Two lists are the same, element by element; and what being the same keeps.
 use Rattle.std.proofs.Common.{◌≡◌, ◌↔◌, ℕ, ◌<◌, List, length, map, get_or, refl, sym, ◌∙◌, ap, false, IsTrue}
 use Rattle.std.proofs.lemmas.List.{get_or-map}
-use Rattle.airbyte_message.proofs.AnswerLemmas.{true_false}
+use Rattle.json_fields.proofs.AnswerLemmas.{true_false}
 use Rattle.airbyte_message.specs.Same.{IsSameKind}
 use Rattle.airbyte_message.specs.declared.message.StateKind.{StateKind}
 use Rattle.airbyte_message.specs.declared.message.StateKind.TheVariants as kind

@@ -8,8 +8,9 @@ use Rattle.json_span.specs.declared.Span.{Span}
 use Rattle.basics.specs.declared.stream.StreamId.{StreamId}
 use Rattle.json_fields.specs.Answer.{IsAnswer, IsOnly}
 use Rattle.json_fields.specs.Fields.{HasField, HasOptional, HasOptionalText, line_depth}
-use Rattle.airbyte_message.specs.Parts.{IsCount, HasDescriptor, IsCutList}
-use Rattle.airbyte_message.specs.States.{IsOptionalCount, IsStats, AreOptionalStats, HasStats, IsStateType, HasStateType, IsStreamBlob, IsStreamState, AreStreamBlobs, HasStreamBlobs, IsGlobalState, IsKind, IsState, state_depth}
+use Rattle.json_fields.specs.Parts.{HasOptionalCount, IsCutList}
+use Rattle.airbyte_message.specs.Parts.{HasDescriptor}
+use Rattle.airbyte_message.specs.States.{AreOptionalStats, HasStats, IsStateType, HasStateType, IsStreamBlob, IsStreamState, AreStreamBlobs, HasStreamBlobs, IsGlobalState, IsKind, IsState, state_depth}
 use Rattle.airbyte_message.specs.declared.message.StateMsg.{StateMsg}
 use Rattle.airbyte_message.specs.declared.message.StateKind.{StateKind}
 use Rattle.airbyte_message.specs.declared.message.StateKind.TheVariants as kind
@@ -17,41 +18,11 @@ use Rattle.airbyte_message.specs.declared.message.StreamBlob.{StreamBlob}
 use Rattle.airbyte_message.specs.declared.state_message.StateType.{StateType}
 use Rattle.airbyte_message.specs.declared.state_message.StateType.TheVariants as types
 use Rattle.std.proofs.lemmas.List.{take_more}
-use Rattle.airbyte_message.proofs.AnswerLemmas.{at, both, wrapped}
+use Rattle.json_fields.proofs.AnswerLemmas.{at, both, wrapped}
 
 -- counts that a state may tell
-pub stats_uncut : (text : List ℕ) → ((members : List Member) → ¬ AreMembers line_depth text members) → IsAnswer (IsStats text) None
-stats_uncut text none = λ count is. none is.optional.members is.optional.object
-
-optional_count_absent : (held : Option (List ℕ)) (count : Option ℕ) → held ≡ None → IsOptionalCount held count → count ≡ None
-optional_count_absent None count e is = is
-optional_count_absent (Some held) count e is = absurd (cc)
-
-optional_count_told : (held : List ℕ) (other : Option (List ℕ)) (count : Option ℕ) → other ≡ Some held → IsOptionalCount other count → IsOptionalCount (Some held) count
-optional_count_told held other count e is = subst (λ (h : Option (List ℕ)). IsOptionalCount h count) e is
-
-optional_count_only : (held : List ℕ) (n : ℕ) (count : Option ℕ) → IsOnly (IsCount held) n → IsOptionalCount (Some held) count → count ≡ Some n
-optional_count_only held n None only is = absurd is
-optional_count_only held n (Some m) only is = ap (λ (k : ℕ). Some k) (only.only m is)
-
-optional_count_none : (held : List ℕ) (count : Option ℕ) → IsAnswer (IsCount held) None → IsOptionalCount (Some held) count → ⊥
-optional_count_none held None none is = is
-optional_count_none held (Some m) none is = none m is
-
-pub stats_absent : (text : List ℕ) → IsOnly (HasOptional text (codes "recordCount")) None → IsOnly (IsStats text) None
-stats_absent text optional = record {
-  is = record { held = None; optional = optional.is; is = refl };
-  only = λ other is. optional_count_absent is.held other (optional.only is.held is.optional) is.is;
-}
-
-pub stats_told : (text held : List ℕ) (n : ℕ) → IsOnly (HasOptional text (codes "recordCount")) (Some held) → IsOnly (IsCount held) n → IsOnly (IsStats text) (Some n)
-stats_told text held n optional count = record {
-  is = record { held = Some held; optional = optional.is; is = count.is };
-  only = λ other is. optional_count_only held n other count (optional_count_told held is.held other (optional.only is.held is.optional) is.is);
-}
-
-pub stats_uncounted : (text held : List ℕ) → IsOnly (HasOptional text (codes "recordCount")) (Some held) → IsAnswer (IsCount held) None → IsAnswer (IsStats text) None
-stats_uncounted text held optional none = λ other is. optional_count_none held other none (optional_count_told held is.held other (optional.only is.held is.optional) is.is)
+pub stats_uncut : (text : List ℕ) → ((members : List Member) → ¬ AreMembers line_depth text members) → IsAnswer (HasOptionalCount text (codes "recordCount")) None
+stats_uncut text none = λ count has. none has.optional.members has.optional.object
 
 optional_stats_absent : (held : Option (List ℕ)) (count : Option ℕ) → held ≡ None → AreOptionalStats held count → count ≡ None
 optional_stats_absent None count e is = is
@@ -63,7 +34,7 @@ has_stats_absent text optional = record {
   only = λ other is. optional_stats_absent is.held other (optional.only is.held is.optional) is.stats;
 }
 
-pub has_stats : (text stats : List ℕ) (found : Option (Option ℕ)) → IsOnly (HasOptional text (codes "sourceStats")) (Some stats) → IsAnswer (IsStats stats) found → IsAnswer (HasStats text) found
+pub has_stats : (text stats : List ℕ) (found : Option (Option ℕ)) → IsOnly (HasOptional text (codes "sourceStats")) (Some stats) → IsAnswer (HasOptionalCount stats (codes "recordCount")) found → IsAnswer (HasStats text) found
 has_stats text stats None optional none = λ other is. none other (subst (λ (h : Option (List ℕ)). AreOptionalStats h other) (optional.only is.held is.optional) is.stats)
 has_stats text stats (Some count) optional only = record {
   is = record { held = Some stats; optional = optional.is; stats = only.is };

@@ -6,7 +6,8 @@ use Rattle.json_span.specs.declared.Member.{Member}
 use Rattle.basics.specs.declared.stream.StreamId.{StreamId}
 use Rattle.json_fields.specs.Answer.{IsAnswer, IsOnly}
 use Rattle.json_fields.specs.Fields.{HasField, HasText, HasOptionalText, line_depth}
-use Rattle.airbyte_message.specs.Parts.{HasOptionalNumber, HasDescriptor}
+use Rattle.json_fields.specs.Parts.{HasOptionalNumber}
+use Rattle.airbyte_message.specs.Parts.{HasDescriptor}
 use Rattle.airbyte_message.specs.Words.{trace_text, failure_text, status_text}
 use Rattle.airbyte_message.specs.Traces.{HasError, HasStatus, IsTold, IsTrace}
 use Rattle.airbyte_message.specs.declared.failure_type.FailureType.{FailureType}
@@ -15,7 +16,7 @@ use Rattle.airbyte_message.specs.declared.message.TraceMsg.{TraceMsg}
 use Rattle.airbyte_message.specs.declared.message.TraceMsg.TheVariants as trace
 use Rattle.airbyte_message.specs.declared.trace_message.TraceType.{TraceType}
 use Rattle.airbyte_message.specs.declared.trace_message.TraceType.TheVariants as types
-use Rattle.airbyte_message.proofs.AnswerLemmas.{at}
+use Rattle.json_fields.proofs.AnswerLemmas.{at}
 
 -- an error
 error_shown : (text : List ℕ) (at : Option (List ℕ)) (content : TraceMsg) → IsTold types.Error text at content → (meaning : List ℕ) × (failure : Option FailureType) × HasError text meaning failure × (content ≡ trace.Error meaning failure at)

@@ -2,7 +2,8 @@
 -- the table does not name is not read.
 use Rattle.std.specs.Prelude.{◌≡◌, ℕ, List, codes}
 use Rattle.json_fields.specs.Fields.{HasField, HasOptional, HasText, HasOptionalText}
-use Rattle.airbyte_message.specs.Parts.{HasArray, HasCount, HasObject, IsStreamId}
+use Rattle.json_fields.specs.Parts.{HasArray, HasCount, HasObject}
+use Rattle.airbyte_message.specs.Parts.{IsStreamId}
 use Rattle.airbyte_message.specs.Words.{level_text, connection_text, type_text, payload_text}
 use Rattle.airbyte_message.specs.States.{IsState}
 use Rattle.airbyte_message.specs.Traces.{IsTrace}

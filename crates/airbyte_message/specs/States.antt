@@ -4,7 +4,8 @@ use Rattle.json_span.specs.Members.{text_at}
 use Rattle.json_span.specs.Elements.{AreElements}
 use Rattle.json_span.specs.declared.Span.{Span}
 use Rattle.json_fields.specs.Fields.{HasField, HasOptional, HasOptionalText, line_depth}
-use Rattle.airbyte_message.specs.Parts.{IsCount, HasDescriptor, NestsWithin}
+use Rattle.json_fields.specs.Parts.{HasOptionalCount, NestsWithin}
+use Rattle.airbyte_message.specs.Parts.{HasDescriptor}
 use Rattle.airbyte_message.specs.declared.message.StateMsg.{StateMsg}
 use Rattle.airbyte_message.specs.declared.message.StateKind.{StateKind}
 use Rattle.airbyte_message.specs.declared.message.StateKind.TheVariants as kind
@@ -16,21 +17,10 @@ use Rattle.airbyte_message.specs.declared.state_message.StateType.TheVariants as
 abbrev pub state_depth : ℕ
 state_depth = 124
 
--- absent, or a count
-abbrev pub IsOptionalCount : Option (List ℕ) → Option ℕ → Type 0
-IsOptionalCount None count = count ≡ None
-IsOptionalCount (Some held) None = ⊥
-IsOptionalCount (Some held) (Some count) = IsCount held count
-
 -- the `recordCount` of `sourceStats`, either of which may be absent
-pub record IsStats (text : List ℕ) (count : Option ℕ) : Type 0 where
-  pub held : Option (List ℕ)
-  pub optional : HasOptional text (codes "recordCount") held
-  pub is : IsOptionalCount held count
-
 abbrev pub AreOptionalStats : Option (List ℕ) → Option ℕ → Type 0
 AreOptionalStats None count = count ≡ None
-AreOptionalStats (Some stats) count = IsStats stats count
+AreOptionalStats (Some stats) count = HasOptionalCount stats (codes "recordCount") count
 
 pub record HasStats (text : List ℕ) (count : Option ℕ) : Type 0 where
   pub held : Option (List ℕ)

@@ -2,7 +2,8 @@
 use Rattle.std.specs.Prelude.{◌≡◌, ℕ, List, Option, option_map, codes}
 use Rattle.json_fields.specs.Fields.{HasField, HasText, HasOptionalText}
 use Rattle.basics.specs.declared.stream.StreamId.{StreamId}
-use Rattle.airbyte_message.specs.Parts.{HasOptionalNumber, HasDescriptor}
+use Rattle.json_fields.specs.Parts.{HasOptionalNumber}
+use Rattle.airbyte_message.specs.Parts.{HasDescriptor}
 use Rattle.airbyte_message.specs.Words.{trace_text, failure_text, status_text}
 use Rattle.airbyte_message.specs.declared.failure_type.FailureType.{FailureType}
 use Rattle.airbyte_message.specs.declared.stream_status.StreamStatus.{StreamStatus}

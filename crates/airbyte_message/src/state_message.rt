@@ -1,14 +1,15 @@
 // The payload of a STATE line.
-ghost use Rattle.std.specs.Prelude.{IfOk, Some};
+ghost use Rattle.std.specs.Prelude.{IfOk, Some, codes};
 ghost use Rattle.json_fields.specs.Answer.{IsAnswer};
 ghost use Rattle.json_fields.specs.Fields.{IsCut};
-ghost use Rattle.airbyte_message.specs.States.{HasStats, HasStateType, IsKind, IsState, IsStateType, IsStats};
+ghost use Rattle.json_fields.specs.Parts.{HasOptionalCount};
+ghost use Rattle.airbyte_message.specs.States.{HasStats, HasStateType, IsKind, IsState, IsStateType};
 
 use crate::stream_blob::{global_of, stream_of};
 use crate::{StateKind, StateMsg, StreamBlob};
-use json_fields::{cut, optional, optional_text};
-use json_span::{MAX_DEPTH, MemberList, whole_of};
 use basics::{Bytes, Name, NoMemory};
+use json_fields::{cut, optional, optional_count, optional_text};
+use json_span::{MAX_DEPTH, MemberList};
 use std::alloc::Global;
 
 // A state nests at most so deep, so that the state store can hold it.
@@ -61,17 +62,11 @@ fn type_of(alloc: Global, text: &[u8], members: &MemberList) -> Result<Option<St
 
 // The `recordCount` of `sourceStats`, `Some(None)` where it is absent, `None` where the text is no such object.
 fn stats_of(alloc: Global, text: &[u8]) -> Result<Option<Option<u64>>, NoMemory>
-    ensures { IfOk result (IsAnswer (IsStats text.now)) }
+    ensures { IfOk result (IsAnswer (HasOptionalCount text.now (codes "recordCount"))) }
 {
-    let Some(members) = cut(alloc, text, MAX_DEPTH)? else {
-        return Ok(None);
-    };
-    match optional(alloc, text, &members, "recordCount")? {
-        Some(held) => match whole_of(held) {
-            Some(count) => Ok(Some(Some(count))),
-            None => Ok(None),
-        },
-        None => Ok(Some(None)),
+    match cut(alloc, text, MAX_DEPTH)? {
+        Some(members) => optional_count(alloc, text, &members, "recordCount"),
+        None => Ok(None),
     }
 }
 

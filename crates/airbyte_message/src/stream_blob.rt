@@ -1,18 +1,16 @@
 // What a state is of: a stream and its blob, or all streams.
-ghost use Rattle.std.specs.Prelude.{IfNone, IfOk, IfSome, All, List};
-ghost use Rattle.json_span.specs.Elements.{AreElements, IsElementOf};
-ghost use Rattle.json_span.specs.declared.Span.{Span};
+ghost use Rattle.std.specs.Prelude.{All, IfOk};
+ghost use Rattle.json_span.specs.Elements.{IsElementOf};
 ghost use Rattle.json_fields.specs.Answer.{IsAnswer};
-ghost use Rattle.json_fields.specs.Fields.{IsCut, line_depth};
+ghost use Rattle.json_fields.specs.Fields.{IsCut};
 ghost use Rattle.airbyte_message.specs.States.{AreStreamBlobs, HasStreamBlobs, IsKind, IsStreamBlob, IsStreamState};
-ghost use Rattle.airbyte_message.specs.Parts.{IsCutList};
 
 use crate::parts::{copied, descriptor_of};
 use crate::state_message::StateType;
 use crate::{StateKind, StreamBlob, StreamBlobList};
-use json_fields::{cut, field, optional};
-use json_span::{MAX_DEPTH, MemberList, Span, SpanFault, SpanList, elements};
 use basics::NoMemory;
+use json_fields::{cut, cut_list, field, optional};
+use json_span::{MAX_DEPTH, MemberList, Span};
 use std::alloc::Global;
 
 // A stream and its blob.
@@ -47,20 +45,6 @@ pub fn stream_of(
     }
 }
 
-// The elements of an array, `None` where the text is none.
-fn cut_list(alloc: Global, text: &[u8]) -> Result<Option<SpanList>, NoMemory>
-    ensures cut { IfOk result (λ found. IfSome found (IsCutList text.now)) }
-    ensures none { IfOk result (λ found. IfNone found ((spans : List Span) → ¬ AreElements line_depth text.now spans)) }
-{
-    match elements(alloc, text) {
-        Ok(spans) => Ok(Some(spans)),
-        Err(SpanFault::NotArray) => Ok(None),
-        Err(SpanFault::TooDeep) => Ok(None),
-        Err(SpanFault::NotObject) => Ok(None),
-        Err(SpanFault::NoMemory) => Err(NoMemory),
-    }
-}
-
 // The streams and their blobs that the elements at these places are.
 fn stream_blobs_at(
     alloc: Global,
@@ -92,7 +76,7 @@ fn stream_blobs_of(
     let Some(list) = field(alloc, text, members, "stream_states")? else {
         return Ok(None);
     };
-    match cut_list(alloc, list)? {
+    match cut_list(alloc, list, MAX_DEPTH)? {
         Some(spans) => stream_blobs_at(alloc, list, spans.as_slice()),
         None => Ok(None),
     }

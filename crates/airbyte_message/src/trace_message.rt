@@ -6,11 +6,11 @@ ghost use Rattle.json_fields.specs.Fields.{HasText, HasOptionalText, IsCut};
 ghost use Rattle.airbyte_message.specs.Traces.{IsTold, IsTrace};
 ghost use Rattle.airbyte_message.specs.Words.{failure_text, status_text, trace_text};
 
-use crate::parts::{copied, descriptor_of, optional_number};
+use crate::parts::{copied, descriptor_of};
 use crate::{FailureType, StreamStatus, TraceMsg};
-use json_fields::{cut, field, optional_text, text_field};
-use json_span::{MAX_DEPTH, MemberList};
 use basics::{Bytes, NoMemory};
+use json_fields::{cut, field, optional_number, optional_text, text_field};
+use json_span::{MAX_DEPTH, MemberList};
 use std::alloc::Global;
 
 /// What a trace is of.

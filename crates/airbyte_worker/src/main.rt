@@ -1,7 +1,7 @@
 //! The worker's program: it does what its words ask for, and its exit status is the number of the run's status.
 #![tactic(auto)]
 
-use outside::{Fault, NoLink, NoMemory, Status, StdDesk};
+use outside::{NoLink, NoMemory, Status, StdDesk};
 use std::env;
 use std::io::ErrorKind;
 use std::process::ExitCode;
@@ -28,12 +28,7 @@ fn status_of(rt: &HostRuntime) -> Status {
     let Ok(mut desk) = StdDesk::new(rt.alloc(), rt) else {
         return Status::NoMemory;
     };
-    let status = worker_run::run(rt.alloc(), &mut desk, &mut NoLink::new(), &words);
-    match desk.finish() {
-        Ok(()) => status,
-        Err(Fault::Failed) => Status::SayFault,
-        Err(Fault::NoMemory) => Status::NoMemory,
-    }
+    worker_run::run(rt.alloc(), &mut desk, &mut NoLink::new(), &words)
 }
 
 fn main(rt: HostRuntime) -> ExitCode {

@@ -1,13 +1,13 @@
 -- Members by name: at most one answer, and one more member at the end.
-use Rattle.std.proofs.Common.{◌≡◌, ◌≤◌, ◌⊎◌, inl, inr, ℕ, List, [], ◌∷◌, ◌++◌, Option, None, Some, refl, sym, ◌∙◌, ap, subst, arith, ◌<◌, ◌+◌, length, take, slice_index_or, codes, Bool, true, false, cond, Result, Ok, Err, IfOk, IfSome, IfNone, IsTrue, ◌↔◌}
+use Rattle.std.proofs.Common.{◌≡◌, inl, inr, ℕ, List, [], ◌∷◌, ◌++◌, Option, None, Some, refl, sym, ◌∙◌, ap, subst, ◌<◌, ◌+◌, length, take, slice_index_or, codes, Bool, true, false, cond, Result, Ok, Err, IfOk, IfSome, IfNone, IsTrue, ◌↔◌}
 use Rattle.std.proofs.lemmas.List.{take_more}
 use Rattle.std.specs.Str.{bytes_eq}
 use Rattle.json_scalar.specs.Text.{IsString, IsNoString}
 use Rattle.basics.specs.declared.memory.NoMemory.{NoMemory}
-use Rattle.json_span.specs.Members.{AreMembers, IsMemberOf, HasOnlyMembers, text_at}
+use Rattle.json_span.specs.Members.{text_at}
 use Rattle.json_span.specs.declared.Member.{Member}
 use Rattle.json_fields.specs.Answer.{IsAnswer, IsOnly}
-use Rattle.json_fields.specs.Fields.{IsNamed, Holds, HoldsBefore, HasField, HasOptional, HasText, HasOptionalText, IsOptionalText, IsCut, present, line_depth}
+use Rattle.json_fields.specs.Fields.{IsNamed, Holds, HoldsBefore, HasField, HasOptional, HasText, HasOptionalText, IsOptionalText, IsCut, present}
 
 pub HoldsBefore-only : (text name : List ℕ) (m : Member) (later a b : Option (List ℕ)) → HoldsBefore text name m later a → HoldsBefore text name m later b → a ≡ b
 HoldsBefore-only text name m (Some later) a b ha hb = ha ∙ sym hb

@@ -1,2 +1,4 @@
 pub mod Answer
 pub mod Fields
+pub mod Parts
+pub mod Words

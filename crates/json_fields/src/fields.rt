@@ -7,8 +7,8 @@ ghost use Rattle.json_fields.specs.Answer.{IsAnswer, IsOnly};
 ghost use Rattle.json_fields.specs.Fields.{Holds, HasField, HasOptional, HasText, HasOptionalText, IsCut};
 ghost use Rattle.json_span.specs.Members.{AreMembers, IsMemberOf, IsValue};
 
-use json_span::{MAX_DEPTH, Member, MemberList, SpanFault, is_string_of, members_within, text_of};
 use basics::{Name, NoMemory};
+use json_span::{MAX_DEPTH, Member, MemberList, SpanFault, is_string_of, members_within, text_of};
 use std::alloc::Global;
 
 /// The members of an object that nests at most `limit` deep, `None` where the text is none.
@@ -22,8 +22,7 @@ pub fn cut(alloc: Global, text: &[u8], limit: usize) -> Result<Option<MemberList
         Ok(members) => Ok(Some(members)),
         Err(SpanFault::NotObject) => Ok(None),
         Err(SpanFault::TooDeep) => Ok(None),
-        // Members are never refused so.
-        Err(SpanFault::NotArray) => Ok(None),
+        Err(SpanFault::NotArray) => unreachable!(),
         Err(SpanFault::NoMemory) => Err(NoMemory),
     }
 }
@@ -63,7 +62,7 @@ pub fn field<'a>(
 }
 
 // Whether a value is `null`.
-fn is_null(value: &[u8]) -> bool
+pub fn is_null(value: &[u8]) -> bool
     ensures { result ≡ bytes_eq value.now (codes "null") }
 {
     value == b"null".as_slice()

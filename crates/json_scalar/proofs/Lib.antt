@@ -7,3 +7,4 @@ mod Contents
 mod Lexing
 mod Plain
 mod Decoded
+mod Decimals

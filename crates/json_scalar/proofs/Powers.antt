@@ -35,6 +35,14 @@ past_eighteen n power some far small =
     let more : 10 ^ power ≤ n * 10 ^ power = grind arith in
     omega arith
 
+-- a power past the thirty-seventh has too many digits
+pub past_thirty_seven : (n power : ℕ) → n ≢ 0 → 37 < power → n * 10 ^ power < 10 ^ 38 → ⊥
+past_thirty_seven n power some far small =
+    let large : 10 ^ 38 ≤ 10 ^ power = pow-le-pow_right (omega arith) far in
+    let one : 1 ≤ n = omega arith in
+    let more : 10 ^ power ≤ n * 10 ^ power = grind arith in
+    omega arith
+
 -- ---- core × 10^zeros × 10^raised = n × 10^lowered
 
 joined : (core zeros raised : ℕ) → core * 10 ^ zeros * 10 ^ raised ≡ core * 10 ^ (zeros + raised)
@@ -69,7 +77,7 @@ meets_nothing core zeros raised lowered some m =
 
 -- ---- a number whose core is too large
 
-pub long_last : (m digit : ℕ) → 0 < digit → digit < 10 → 2 ^ 63 ≤ m * 10 + digit → IsLong (m * 10 + digit)
+pub long_last : (m digit : ℕ) → 0 < digit → digit < 10 → 10 ^ 38 ≤ m * 10 + digit → IsLong (m * 10 + digit)
 long_last m digit some small large = record {
   core = m * 10 + digit;
   zeros = 0;
@@ -78,7 +86,7 @@ long_last m digit some small large = record {
   ends = λ e. let r : (m * 10 + digit) % 10 ≡ digit = mul-add-mod_self_right m 10 digit ∙ mod-eq_of_lt small in omega arith;
 }
 
-pub trimmed_last : (m digit : ℕ) → 0 < digit → digit < 10 → m * 10 + digit < 2 ^ 63 → IsTrimmed (m * 10 + digit)
+pub trimmed_last : (m digit : ℕ) → 0 < digit → digit < 10 → m * 10 + digit < 10 ^ 38 → IsTrimmed (m * 10 + digit)
 trimmed_last m digit some small below = record {
   small = below;
   ends = λ e. let r : (m * 10 + digit) % 10 ≡ digit = mul-add-mod_self_right m 10 digit ∙ mod-eq_of_lt small in omega arith;
@@ -96,7 +104,7 @@ long_next n digit small long = elim (cases_eq digit 0) [
   | inr some ↦ long_last n digit (omega arith) small (omega (arith, large_of n long))
 ]
   where
-    large_of : (n : ℕ) → IsLong n → 2 ^ 63 ≤ n
+    large_of : (n : ℕ) → IsLong n → 10 ^ 38 ≤ n
     large_of n long =
         let more : long.core ≤ long.core * 10 ^ long.zeros = le-mul_of_pos_right long.core (positive long.zeros) in
         let v = long.value in
@@ -117,13 +125,13 @@ long_meets n raised lowered m long e small =
     ]
 
 -- a product that does not fit, with a digit behind it, and a sum that does not
-pub product_large : (core k digit : ℕ) → (core * 10 ^ (k + 1) < 2 ^ 63 → ⊥) → 2 ^ 63 ≤ core * 10 ^ k * 10 + digit
-product_large core k digit large = elim (cases_lt (core * 10 ^ (k + 1)) (2 ^ 63)) [
+pub product_large : (core k digit : ℕ) → (core * 10 ^ (k + 1) < 10 ^ 38 → ⊥) → 10 ^ 38 ≤ core * 10 ^ k * 10 + digit
+product_large core k digit large = elim (cases_lt (core * 10 ^ (k + 1)) (10 ^ 38)) [
   | inl small ↦ absurd (large small)
   | inr le ↦ omega (arith, times_ten core k)
 ]
 
-pub sum_large : (core k digit product : ℕ) → product ≡ core * 10 ^ (k + 1) → 2 ^ 63 ≤ product + digit → 2 ^ 63 ≤ core * 10 ^ k * 10 + digit
+pub sum_large : (core k digit product : ℕ) → product ≡ core * 10 ^ (k + 1) → 10 ^ 38 ≤ product + digit → 10 ^ 38 ≤ core * 10 ^ k * 10 + digit
 sum_large core k digit product e large = omega (arith, times_ten core k)
 
 -- ---- what a product that may not fit tells
@@ -143,6 +151,25 @@ pub capped_next : (capped n digit : ℕ) → IsCapped capped n → IsCapped (cap
 capped_next capped n digit (inl e) = inl (ap (λ k. k * 10 + digit) e)
 capped_next capped n digit (inr p) = let a = p.0 in let b = p.1 in inr (omega arith, omega arith)
 
-pub capped_stays : (capped n digit : ℕ) → 2 ^ 65 ≤ capped → IsCapped capped n → IsCapped capped (n * 10 + digit)
+pub capped_stays : (capped n digit : ℕ) → 2 ^ 66 ≤ capped → IsCapped capped n → IsCapped capped (n * 10 + digit)
 capped_stays capped n digit large (inl e) = inr (large, omega arith)
 capped_stays capped n digit large (inr p) = let b = p.1 in inr (large, omega arith)
+
+-- ---- numbers that end in no zero
+
+-- such a number is no other one with zeros behind it
+longer_ends : (a b i j : ℕ) → (a % 10 ≡ 0 → ⊥) → i < j → a * 10 ^ i ≡ b * 10 ^ j → ⊥
+longer_ends a b i j ends less e =
+    let is : a ≡ b * 10 ^ (j - i) = cancel_power a (b * 10 ^ (j - i)) i (e ∙ split_power b i j (omega arith)) in
+    let next : j - i ≡ (j - i - 1) + 1 = omega arith in
+    let tens : a ≡ b * 10 ^ (j - i - 1) * 10 = is ∙ ap (λ k. b * 10 ^ k) next ∙ times_ten b (j - i - 1) in
+    ends (ap (λ x. x % 10) tens ∙ mul-mod_left (b * 10 ^ (j - i - 1)) 10)
+
+pub one_ending : (a b i j : ℕ) → (a % 10 ≡ 0 → ⊥) → (b % 10 ≡ 0 → ⊥) → a * 10 ^ i ≡ b * 10 ^ j → (a ≡ b) × (i ≡ j)
+one_ending a b i j ends others e = elim (cases_lt i j) [
+  | inl less ↦ absurd (longer_ends a b i j ends less e)
+  | inr le ↦ elim (cases_eq i j) [
+    | inl same ↦ (cancel_power a b j (ap (λ k. a * 10 ^ k) (sym same) ∙ e), same)
+    | inr other ↦ absurd (longer_ends b a j i others (omega arith) (sym e))
+  ]
+]

@@ -14,7 +14,7 @@ raised_sign capital unsigned ds = sym (digits_value_is (all_digits ds))
 raised_sign capital plus ds = sym (digits_value_is (all_digits ds))
 raised_sign capital minus ds = refl
 
-raised_is : (e : Option Exponent) → cond (exponent_cut e).0 0 (spelled (exponent_cut e).1) ≡ raised e
+pub raised_is : (e : Option Exponent) → cond (exponent_cut e).0 0 (spelled (exponent_cut e).1) ≡ raised e
 raised_is None = refl
 raised_is (Some e) = raised_sign e.is_capital e.sign e.digits
 
@@ -23,11 +23,11 @@ lowered_sign capital unsigned ds = refl
 lowered_sign capital plus ds = refl
 lowered_sign capital minus ds = sym (digits_value_is (all_digits ds))
 
-lowered_is : (e : Option Exponent) → cond (exponent_cut e).0 (spelled (exponent_cut e).1) 0 ≡ lowered e
+pub lowered_is : (e : Option Exponent) → cond (exponent_cut e).0 (spelled (exponent_cut e).1) 0 ≡ lowered e
 lowered_is None = refl
 lowered_is (Some e) = lowered_sign e.is_capital e.sign e.digits
 
-mantissa_is : (l : Literal) → spelled ((literal_cut l).whole ++ (literal_cut l).fraction) ≡ mantissa l
+pub mantissa_is : (l : Literal) → spelled ((literal_cut l).whole ++ (literal_cut l).fraction) ≡ mantissa l
 mantissa_is l =
     ap spelled (sym (map-append (λ (d : Digit). 48 + d.value) (whole_digits l.whole) (fraction_digits l.fraction))) ∙ sym (digits_value_is (whole_digits l.whole ++ fraction_digits l.fraction))
 

@@ -1,7 +1,9 @@
 pub mod Text
 pub mod Number
+pub mod Decimal
 pub mod Quotes
 pub mod Form
 pub mod Digits
 pub mod Parts
 pub mod Seen
+pub mod DecimalParts

@@ -10,7 +10,10 @@ ghost use Rattle.json_scalar.specs.Parts.{begins, without, front_digits, behind_
 const LIMIT: u64 = 1 << 63;
 
 // From here on the size of an exponent changes no answer, since no text has so many digits.
-const EXPONENT_CAP: u128 = 1 << 65;
+const EXPONENT_CAP: u128 = 1 << 66;
+
+// The least number of more than 38 digits.
+const DECIMAL_LIMIT: u128 = 100_000_000_000_000_000_000_000_000_000_000_000_000;
 
 // So many digits always spell a number below the limit.
 const PLAIN_DIGITS: usize = 18;
@@ -49,16 +52,16 @@ fn plain_digits(text: &[u8]) -> Option<u64>
 
 // The parts of a number's text.
 #[derive(Clone, Copy)]
-struct Parts<'a> {
-    is_negative: bool,
+pub struct Parts<'a> {
+    pub is_negative: bool,
 
     // The digits before the point, and those behind it.
-    whole: &'a [u8],
-    fraction: &'a [u8],
+    pub whole: &'a [u8],
+    pub fraction: &'a [u8],
 
     // Whether the exponent has a minus, and its digits.
-    lowers: bool,
-    exponent: &'a [u8],
+    pub lowers: bool,
+    pub exponent: &'a [u8],
 }
 
 // Whether the text begins with the byte, and what follows the byte if so.
@@ -131,7 +134,7 @@ impl Parts<'_> {
     ghost use Rattle.json_scalar.specs.Seen.{cut_of};
 
     // The parts of a text that is a number.
-    fn of(text: &[u8]) -> Option<Parts<'_>>
+    pub fn of(text: &[u8]) -> Option<Parts<'_>>
         ensures { option_map cut_of result ≡ cut text.now }
     {
         let (is_negative, unsigned) = without_byte(text, b'-');
@@ -178,15 +181,15 @@ impl Parts<'_> {
 
 // A number without the zeros at its end: it is core × 10^zeros.
 #[derive(Clone, Copy)]
-struct Significand {
-    core: u64,
-    zeros: u128,
+pub struct Significand {
+    pub core: u128,
+    pub zeros: u128,
 }
 
 impl Significand {
     ghost use Rattle.json_scalar.specs.Seen.{number_of};
 
-    const ZERO: Significand = Significand { core: 0, zeros: 0 };
+    pub const ZERO: Significand = Significand { core: 0, zeros: 0 };
 
     // The number times a power of ten and over another, where that is whole and below the limit.
     fn shifted(self, raised: u128, lowered: u128) -> Option<u64>
@@ -205,7 +208,7 @@ impl Significand {
     }
 
     // The number with these digits behind its own, `None` where its core passes the limit.
-    fn followed_by(self, digits: &[u8]) -> Option<Significand>
+    pub fn followed_by(self, digits: &[u8]) -> Option<Significand>
         requires digits { AreDigits digits.now }
         requires trimmed { IsTrimmed self.core }
         requires room { self.zeros + length digits.now < 2 ^ 66 }
@@ -216,13 +219,13 @@ impl Significand {
     {
         let mut number = self;
         for byte in digits {
-            number = number.with_digit((*byte - b'0') as u64)?;
+            number = number.with_digit((*byte - b'0') as u128)?;
         }
         Some(number)
     }
 
     // The number with one more digit behind its own.
-    fn with_digit(self, digit: u64) -> Option<Significand>
+    fn with_digit(self, digit: u128) -> Option<Significand>
         requires digit { digit < 10 }
         requires trimmed { IsTrimmed self.core }
         requires room { self.zeros < 2 ^ 66 }
@@ -238,16 +241,16 @@ impl Significand {
                 zeros,
             });
         }
-        let core = times_power(self.core, self.zeros + 1)? + digit;
-        if core >= LIMIT {
+        let core = with_zeros(self.core, self.zeros + 1)? + digit;
+        if core >= DECIMAL_LIMIT {
             return None;
         }
         Some(Significand { core, zeros: 0 })
     }
 }
 
-// The number times a power of ten, where that is below the limit.
-fn times_power(number: u64, power: u128) -> Option<u64>
+// The number times a power of ten, where that is below the limit of an answer.
+fn times_power(number: u128, power: u128) -> Option<u64>
     ensures { SomeIff result (number * 10 ^ power < 2 ^ 63) (number * 10 ^ power) }
 {
     if number == 0 {
@@ -256,15 +259,32 @@ fn times_power(number: u64, power: u128) -> Option<u64>
     if power > 18 {
         return None;
     }
-    let product = number.checked_mul(10u64.checked_pow(power as u32)?)?;
-    if product >= LIMIT {
+    let product = number.checked_mul(10u128.checked_pow(power as u32)?)?;
+    if product >= LIMIT as u128 {
+        return None;
+    }
+    Some(product as u64)
+}
+
+// The number with so many zeros behind it, where that has at most 38 digits.
+fn with_zeros(number: u128, zeros: u128) -> Option<u128>
+    ensures { SomeIff result (number * 10 ^ zeros < 10 ^ 38) (number * 10 ^ zeros) }
+{
+    if number == 0 {
+        return Some(0);
+    }
+    if zeros > 37 {
+        return None;
+    }
+    let product = number.checked_mul(10u128.checked_pow(zeros as u32)?)?;
+    if product >= DECIMAL_LIMIT {
         return None;
     }
     Some(product)
 }
 
 // The number that the digits spell, or some number that is not below the cap where that is not either.
-fn capped_exponent(digits: &[u8]) -> u128
+pub fn capped_exponent(digits: &[u8]) -> u128
     requires { AreDigits digits.now }
     ensures capped { IsCapped result (spelled digits.now) }
     ensures room { result < 2 ^ 70 }

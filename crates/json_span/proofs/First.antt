@@ -25,7 +25,7 @@ no_number true w rest e = omega (arith, e)
 no_number false nought rest e = omega (arith, e)
 no_number false (counted first above others) rest e = let small = first.small in omega (arith, e)
 
-is_object_value : (v : Value) (rest : List ℕ) → BeginsWith 123 (value_then v rest) → IsObjectValue v
+pub is_object_value : (v : Value) (rest : List ℕ) → BeginsWith 123 (value_then v rest) → IsObjectValue v
 is_object_value (json.empty_object ss) rest e = tt
 is_object_value (json.object before key behind ahead v after members) rest e = tt
 is_object_value (json.number l) rest e = absurd (no_number l.is_negative l.whole (fraction_then l.fraction (exponent_then l.exponent rest)) e)
@@ -54,7 +54,7 @@ begins_spelled : (before : List Space) (v : Value) → IsObjectValue v → (rest
 begins_spelled [] v is rest h = begins_object v is rest
 begins_spelled (s ∷ ss) v is rest h = absurd (subst (λ t. IsStart t) (class_of-space s) h)
 
-begins_some : (text : List ℕ) → IsValue text → IsSomeObject text → BeginsWith 123 text
+pub begins_some : (text : List ℕ) → IsValue text → IsSomeObject text → BeginsWith 123 text
 begins_some text h o =
     let w = o.object in
     let e = spelled_then text w.before w.value w.after w.spells.spelled in

@@ -6,10 +6,14 @@ pub mod Classes
 pub mod Complete
 pub mod Digits
 pub mod First
+pub mod Inside
+pub mod Lanes
 pub mod Numbers
 pub mod Parts
 pub mod Places
+pub mod Reading
 pub mod Run
+pub mod Runs
 pub mod Sound
 pub mod Spelling
 pub mod Steps

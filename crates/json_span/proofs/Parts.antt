@@ -1,5 +1,5 @@
 -- The key and the value of each member, as parts of the text.
-use Rattle.std.proofs.Common.{◌≡◌, ℕ, suc, ◌+◌, ◌-◌, ◌<◌, List, [], ◌∷◌, ◌++◌, Bool, true, false, length, take, drop, get_or, refl, sym, ap, subst, ◌∙◌, arith, length-append, append_assoc, lit<}
+use Rattle.std.proofs.Common.{◌≡◌, ℕ, suc, ◌+◌, ◌-◌, ◌<◌, ◌≤◌, List, [], ◌∷◌, ◌++◌, Bool, true, false, length, take, drop, get_or, refl, sym, ap, subst, ◌∙◌, arith, length-append, append_assoc, lit<}
 use Rattle.std.specs.Prelude.{slice_range, flat_map, IsUtf8, All}
 use Rattle.std.specs.List.{AllByRecursion}
 use Rattle.std.specs.Str.{IsCharBoundary}
@@ -9,7 +9,7 @@ use Rattle.std.proofs.lemmas.Str.{IsUtf8-between, IsCharBoundary-before_ascii}
 use Rattle.json_scalar.specs.Text.{Piece, piece_meaning, string_text}
 use Rattle.json_scalar.specs.Number.{Whole, nought, counted}
 use Rattle.json_span.specs.Grammar as json
-use Rattle.json_span.specs.Grammar.{Space, space_text, Value, Members, value_text, member_at, member_end, members_from}
+use Rattle.json_span.specs.Grammar.{Space, space_text, Value, Members, value_text, depth, members_depth, member_at, member_end, members_from}
 use Rattle.json_span.specs.Members.{IsObject, IsObjectValue, IsMemberOf, IsWithin, members_of}
 use Rattle.json_span.specs.declared.Member.{Member}
 use Rattle.json_span.proofs.Spelling.{joined, blanks, string_then, whole_then, minus_then, fraction_then, exponent_then, value_then, members_then, blanks-is, string_then-is, value_then-is}
@@ -83,7 +83,12 @@ part_within text front mid back from to e f g =
     let rest : length (mid ++ back) ≡ length mid + length back = length-append mid back in
     record { ordered = omega arith; inside = omega arith }
 
-module _ (text : List ℕ) (u : IsUtf8 text) (front : List ℕ) (at : ℕ) (is_at : at ≡ length front) (key : List Piece) (behind ahead : List Space) (v : Value) (after : List Space) (tail : List ℕ) (next : IsAsciiNext tail)
+-- a part of an object that nests this deep: its value nests less deep
+pub record IsNested (text : List ℕ) (deep : ℕ) (m : Member) : Type 0 where
+  pub part : IsMemberOf text m
+  pub nests : depth part.value.value < deep
+
+module _ (text : List ℕ) (u : IsUtf8 text) (deep : ℕ) (front : List ℕ) (at : ℕ) (is_at : at ≡ length front) (key : List Piece) (behind ahead : List Space) (v : Value) (after : List Space) (tail : List ℕ) (next : IsAsciiNext tail)
     (e : text ≡ front ++ string_then key (blanks behind (58 ∷ blanks ahead (value_then v (blanks after tail))))) where
   key_split : text ≡ front ++ (string_text key ++ blanks behind (58 ∷ blanks ahead (value_then v (blanks after tail))))
   key_split = e ∙ ap (λ (l : List ℕ). front ++ l) (string_then-is key (blanks behind (58 ∷ blanks ahead (value_then v (blanks after tail)))))
@@ -105,8 +110,8 @@ module _ (text : List ℕ) (u : IsUtf8 text) (front : List ℕ) (at : ℕ) (is_a
       places at f k b a fk ba whole g h i j = omega arith
 
   -- the key and the value of a member
-  member_is : IsMemberOf text (member_at at key behind ahead v)
-  member_is =
+  member_is : depth v < deep → IsNested text deep (member_at at key behind ahead v)
+  member_is low =
       let value_at = value_then v (blanks after tail) in
       let behind_at = blanks behind (58 ∷ blanks ahead value_at) in
       let start = at + length (string_text key) + length (space_text behind) + 1 + length (space_text ahead) in
@@ -115,22 +120,25 @@ module _ (text : List ℕ) (u : IsUtf8 text) (front : List ℕ) (at : ℕ) (is_a
       let next_after : IsAsciiNext (blanks after tail) = next_blanks after tail next in
       let next_at : IsAsciiNext (value_text v ++ blanks after tail) = subst (λ (l : List ℕ). IsAsciiNext l) (value_then-is v (blanks after tail)) (next_value v (blanks after tail)) in
       record {
-        place = record {
-          key = part_within text front (string_text key) behind_at at (at + length (string_text key)) key_split is_at refl;
-          value = part_within text front_value (value_text v) (blanks after tail) start (start + length (value_text v)) value_split value_place refl;
+        part = record {
+          place = record {
+            key = part_within text front (string_text key) behind_at at (at + length (string_text key)) key_split is_at refl;
+            value = part_within text front_value (value_text v) (blanks after tail) start (start + length (value_text v)) value_split value_place refl;
+          };
+          name = flat_map piece_meaning key;
+          key = record {
+            utf8 = part_utf8 text front (string_text key) behind_at at (at + length (string_text key)) u key_split is_at refl (lit< tt) next_behind;
+            pieces = key;
+            spelled = part_at text front (string_text key) behind_at at (at + length (string_text key)) key_split is_at refl;
+            means = refl;
+          };
+          value = record {
+            utf8 = part_utf8 text front_value (value_text v) (blanks after tail) start (start + length (value_text v)) u value_split value_place refl next_at next_after;
+            value = v;
+            spelled = part_at text front_value (value_text v) (blanks after tail) start (start + length (value_text v)) value_split value_place refl;
+          };
         };
-        name = flat_map piece_meaning key;
-        key = record {
-          utf8 = part_utf8 text front (string_text key) behind_at at (at + length (string_text key)) u key_split is_at refl (lit< tt) next_behind;
-          pieces = key;
-          spelled = part_at text front (string_text key) behind_at at (at + length (string_text key)) key_split is_at refl;
-          means = refl;
-        };
-        value = record {
-          utf8 = part_utf8 text front_value (value_text v) (blanks after tail) start (start + length (value_text v)) u value_split value_place refl next_at next_after;
-          value = v;
-          spelled = part_at text front_value (value_text v) (blanks after tail) start (start + length (value_text v)) value_split value_place refl;
-        };
+        nests = low;
       }
 
   -- what follows it
@@ -156,9 +164,9 @@ before_key text front b before rest e = e ∙ ap (λ (l : List ℕ). front ++ b 
 pub key_at : (front : List ℕ) (b : ℕ) (before : List Space) (at : ℕ) → at ≡ length front → at + 1 + length (space_text before) ≡ length (front ++ b ∷ space_text before)
 key_at front b before at e = let size = length-append front (b ∷ space_text before) in omega arith
 
-all_members : (text : List ℕ) → IsUtf8 text → (members : Members) (front : List ℕ) (from : ℕ) → from ≡ length front → (rest : List ℕ) → text ≡ front ++ members_then members rest → AllByRecursion (IsMemberOf text) (members_from from members)
-all_members text u json.end_object front from is_at rest e = tt
-all_members text u (json.member before key behind ahead v after members) front from is_at rest e =
+all_members : (text : List ℕ) → IsUtf8 text → (deep : ℕ) (members : Members) → members_depth members < deep → (front : List ℕ) (from : ℕ) → from ≡ length front → (rest : List ℕ) → text ≡ front ++ members_then members rest → AllByRecursion (IsNested text deep) (members_from from members)
+all_members text u deep json.end_object low front from is_at rest e = tt
+all_members text u deep (json.member before key behind ahead v after members) low front from is_at rest e =
     let tail = members_then members rest in
     let key_then = string_then key (blanks behind (58 ∷ blanks ahead (value_then v (blanks after tail)))) in
     let start = from + 1 + length (space_text before) in
@@ -166,14 +174,14 @@ all_members text u (json.member before key behind ahead v after members) front f
     let split : text ≡ front_key ++ key_then = before_key text front 44 before key_then e in
     let place : start ≡ length front_key = key_at front 44 before from is_at in
     let next = next_members members rest in (
-      member_is text u front_key start place key behind ahead v after tail next split,
-      all_members text u members ((((front_key ++ string_text key) ++ (space_text behind ++ 58 ∷ space_text ahead)) ++ value_text v) ++ space_text after) (member_end start key behind ahead v after)
-          (next_place text u front_key start place key behind ahead v after tail next split) rest (next_split text u front_key start place key behind ahead v after tail next split),
+      member_is text u deep front_key start place key behind ahead v after tail next split (omega arith),
+      all_members text u deep members (omega arith) ((((front_key ++ string_text key) ++ (space_text behind ++ 58 ∷ space_text ahead)) ++ value_text v) ++ space_text after) (member_end start key behind ahead v after)
+          (next_place text u deep front_key start place key behind ahead v after tail next split) rest (next_split text u deep front_key start place key behind ahead v after tail next split),
     )
 
-object_members : (text : List ℕ) → IsUtf8 text → (v : Value) → IsObjectValue v → (front : List ℕ) (from : ℕ) → from ≡ length front → (rest : List ℕ) → text ≡ front ++ value_then v rest → AllByRecursion (IsMemberOf text) (members_of from v)
-object_members text u (json.empty_object ss) is front from is_at rest e = tt
-object_members text u (json.object before key behind ahead v after members) is front from is_at rest e =
+object_members : (text : List ℕ) → IsUtf8 text → (deep : ℕ) (v : Value) → IsObjectValue v → depth v ≤ deep → (front : List ℕ) (from : ℕ) → from ≡ length front → (rest : List ℕ) → text ≡ front ++ value_then v rest → AllByRecursion (IsNested text deep) (members_of from v)
+object_members text u deep (json.empty_object ss) is low front from is_at rest e = tt
+object_members text u deep (json.object before key behind ahead v after members) is low front from is_at rest e =
     let tail = members_then members rest in
     let key_then = string_then key (blanks behind (58 ∷ blanks ahead (value_then v (blanks after tail)))) in
     let start = from + 1 + length (space_text before) in
@@ -181,16 +189,23 @@ object_members text u (json.object before key behind ahead v after members) is f
     let split : text ≡ front_key ++ key_then = before_key text front 123 before key_then e in
     let place : start ≡ length front_key = key_at front 123 before from is_at in
     let next = next_members members rest in (
-      member_is text u front_key start place key behind ahead v after tail next split,
-      all_members text u members ((((front_key ++ string_text key) ++ (space_text behind ++ 58 ∷ space_text ahead)) ++ value_text v) ++ space_text after) (member_end start key behind ahead v after)
-          (next_place text u front_key start place key behind ahead v after tail next split) rest (next_split text u front_key start place key behind ahead v after tail next split),
+      member_is text u deep front_key start place key behind ahead v after tail next split (omega arith),
+      all_members text u deep members (omega arith) ((((front_key ++ string_text key) ++ (space_text behind ++ 58 ∷ space_text ahead)) ++ value_text v) ++ space_text after) (member_end start key behind ahead v after)
+          (next_place text u deep front_key start place key behind ahead v after tail next split) rest (next_split text u deep front_key start place key behind ahead v after tail next split),
     )
-object_members text u _ is front from is_at rest e = absurd is
+object_members text u deep _ is low front from is_at rest e = absurd is
 
--- the members of an object are parts of its text
-pub are_parts : (text : List ℕ) (deep : ℕ) (members : List Member) → IsObject text deep members → All (IsMemberOf text) members
-are_parts text deep members o =
+-- the members of an object are parts of its text, and their values nest less deep than it
+pub are_nested : (text : List ℕ) (deep : ℕ) (members : List Member) → IsObject text deep members → All (IsNested text deep) members
+are_nested text deep members o =
     let s = o.spells in
     let split : text ≡ space_text o.before ++ value_then o.value (blanks o.after []) = spelled_then text o.before o.value o.after s.spelled ∙ blanks-is o.before (value_then o.value (blanks o.after [])) in
-    subst (λ (l : List Member). All (IsMemberOf text) l) (sym o.places)
-    (All-from_recursion (IsMemberOf text) (members_of (length (space_text o.before)) o.value) (object_members text s.utf8 o.value s.object (space_text o.before) (length (space_text o.before)) refl (blanks o.after []) split))
+    subst (λ (l : List Member). All (IsNested text deep) l) (sym o.places)
+    (All-from_recursion (IsNested text deep) (members_of (length (space_text o.before)) o.value)
+    (object_members text s.utf8 deep o.value s.object (subst (λ (n : ℕ). depth o.value ≤ n) (sym o.deepest) (≤-refl (depth o.value))) (space_text o.before) (length (space_text o.before)) refl (blanks o.after []) split))
+  where
+    ≤-refl : (n : ℕ) → n ≤ n
+    ≤-refl n = omega arith
+
+pub are_parts : (text : List ℕ) (deep : ℕ) (members : List Member) → IsObject text deep members → All (IsMemberOf text) members
+are_parts text deep members o k d h = (are_nested text deep members o k d h).part

@@ -1,5 +1,5 @@
 -- What the machine counts: the depth of a tree, and the places of its members.
-use Rattle.std.proofs.Common.{◌≡◌, ℕ, suc, ◌+◌, ◌-◌, ◌≤◌, max, List, [], ◌∷◌, ◌++◌, length, sym, ap, ◌∙◌, arith, length-append, append_assoc, append-nil, add_assoc}
+use Rattle.std.proofs.Common.{◌≡◌, ℕ, suc, ◌+◌, ◌-◌, ◌<◌, ◌≤◌, max, List, [], ◌∷◌, ◌++◌, length, sym, ap, ◌∙◌, arith, length-append, append_assoc, append-nil, add_assoc}
 use Rattle.json_scalar.specs.Text.{Piece, string_text}
 use Rattle.json_span.specs.Grammar as json
 use Rattle.json_span.specs.Grammar.{Space, space_text, Value, Items, Members, value_text, depth, items_depth, members_depth, member_at, member_end, members_from}
@@ -48,6 +48,20 @@ mutual
       let d1 = deepened v level d in
       let e : d1 ≡ max d (level + depth v) = deepened-max v level d h in
       next_depth level d d1 (members_deepened members level d1) (depth v) (members_depth members) e (members_deepened-max members level d1 (omega arith))
+
+-- an object opens a level of its own
+pub braces_deepened : (v : Value) → IsObjectValue v → (level d : ℕ) → deepened v level d ≡ max d (level + depth v)
+braces_deepened (json.empty_object ss) is level d = omega arith
+braces_deepened (json.object before key behind ahead v after members) is level d =
+    let w = json.object before key behind ahead v after members in
+    let e : max d (suc level) ≡ max (max d level) (suc level) = omega arith in
+    ap (λ (n : ℕ). members_deepened members (suc level) (deepened v (suc level) n)) e
+    ∙ deepened-max w level (max d level) (omega arith)
+    ∙ drop_level level d (depth w) (omega arith)
+  where
+    drop_level : (level d n : ℕ) → 0 < n → max (max d level) (level + n) ≡ max d (level + n)
+    drop_level level d n h = omega arith
+braces_deepened _ is level d = absurd is
 
 -- how long a front and what follows it are
 pub length-blanks : (ss : List Space) (rest : List ℕ) → length (blanks ss rest) ≡ length (space_text ss) + length rest

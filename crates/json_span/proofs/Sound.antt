@@ -207,6 +207,23 @@ mutual
       ∙ run-member size (frame.Object ∷ k) d d1 c key behind ahead v after tail (λ c'. run-value v size frame.Object k d c' (blanks after tail) (stops_blanks after tail (stops_members members rest)))
       ∙ run-members members size k d1 (member_cut size (frame.Object ∷ k) c key behind ahead v after tail) rest
 
+-- an object that is a value, whatever follows it
+pub run-braces : (v : Value) → IsObjectValue v → (size : ℕ) (f : Frame) (k : List Frame) (d : ℕ) (c : Cutter) (rest : List ℕ) →
+    run size (state phase.Value (f ∷ k) d c) (value_then v rest) ≡ run size (state phase.After (f ∷ k) (deepened v (length (f ∷ k)) d) (value_cut size (f ∷ k) c (value_then v rest) rest)) rest
+run-braces (json.empty_object ss) is size f k d c rest =
+    run-blanks size phase.FirstKey waits_first_key (frame.Object ∷ f ∷ k) (max d (suc (length (f ∷ k)))) (value_begun (f ∷ k) c (size - length (123 ∷ blanks ss (125 ∷ rest)))) ss (125 ∷ rest)
+run-braces (json.object before key behind ahead v after members) is size f k d c rest =
+    let tail = members_then members rest in
+    let key_at = string_then key (blanks behind (58 ∷ blanks ahead (value_then v (blanks after tail)))) in
+    let c1 = value_begun (f ∷ k) c (size - length (123 ∷ blanks before key_at)) in
+    let d1 = max d (suc (length (f ∷ k))) in
+    let d2 = deepened v (suc (length (f ∷ k))) d1 in
+    run-blanks size phase.FirstKey waits_first_key (frame.Object ∷ f ∷ k) d1 c1 before key_at
+    ∙ run-member size (frame.Object ∷ f ∷ k) d1 d2 c1 key behind ahead v after tail (λ c'. run-value v size frame.Object (f ∷ k) d1 c' (blanks after tail) (stops_blanks after tail (stops_members members rest)))
+    ∙ run-members members size (f ∷ k) d2 c1 rest
+    ∙ ap (λ c'. run size (state phase.After (f ∷ k) (members_deepened members (suc (length (f ∷ k))) d2) (value_ended (f ∷ k) c' (size - length rest))) rest) (members_cut-inside size frame.Object f k c1 members rest)
+run-braces _ is size f k d c rest = absurd is
+
 -- what the object of the text makes of the cutter
 abbrev pub object_cut : ℕ → Cutter → Value → List ℕ → Cutter
 object_cut size c (json.object before key behind ahead v after members) rest = members_cut size (frame.Object ∷ []) (member_cut size (frame.Object ∷ []) c key behind ahead v after (members_then members rest)) members rest

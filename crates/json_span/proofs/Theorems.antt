@@ -27,7 +27,7 @@ pub record HasRead (m : Machine) (deep : ℕ) (members : List Member) : Type 0 w
   pub deepest : m.deepest ≡ deep
   pub places : m.cutter.members ≡ members
 
-has_read : (before : List Space) (v : Value) (after : List Space) → IsObjectValue v → HasRead (read_whole frame.Object (blanks before (value_then v (blanks after [])))) (depth v) (members_of (length (space_text before)) v)
+pub has_read : (before : List Space) (v : Value) (after : List Space) → IsObjectValue v → HasRead (read_whole frame.Object (blanks before (value_then v (blanks after [])))) (depth v) (members_of (length (space_text before)) v)
 has_read before v after is =
     let text = blanks before (value_then v (blanks after [])) in
     let size = length text in
@@ -91,7 +91,7 @@ module _ (text : List ℕ) (m : Machine) (is : m ≡ read_whole frame.Object tex
   }
 
 -- the last byte of white space is white
-last_space : (ss : List Space) (rest : List ℕ) (last : ℕ) → rest ++ last ∷ [] ≡ blanks ss [] → (s : Space) × (last ≡ space_byte s)
+pub last_space : (ss : List Space) (rest : List ℕ) (last : ℕ) → rest ++ last ∷ [] ≡ blanks ss [] → (s : Space) × (last ≡ space_byte s)
 last_space [] [] last e = cc
 last_space [] (b ∷ rest) last e = cc
 last_space (s ∷ ss) [] last e = (s, cc)

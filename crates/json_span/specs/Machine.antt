@@ -1,5 +1,5 @@
 -- The reader of an object or an array as a machine over lists: what a byte makes of its state, and what a text makes of it.
-use Rattle.std.specs.Prelude.{◌≡◌, ℕ, ◌-◌, max, Bool, true, false, List, [], ◌∷◌, ◌++◌, length, if◌then◌else◌}
+use Rattle.std.specs.Prelude.{◌≡◌, ℕ, ◌+◌, ◌-◌, ◌≤◌, max, Bool, true, false, List, [], ◌∷◌, ◌++◌, length, take, drop, if◌then◌else◌}
 use Rattle.json_span.specs.Table.{class_of, move_of, after_move}
 use Rattle.json_span.specs.declared.Span.{Span}
 use Rattle.json_span.specs.declared.Member.{Member}
@@ -130,9 +130,13 @@ abbrev pub run : ℕ → Machine → List ℕ → Machine
 run size m [] = m
 run size m (b ∷ bs) = run size (stepped m b (size - length (b ∷ bs)) (size - length bs)) bs
 
+-- nothing is cut yet
+abbrev pub uncut : Cutter
+uncut = record { key_start = 0; key_end = 0; value_start = 0; members = []; elements = [] }
+
 -- before the text of an array, or of an object
 abbrev pub initial : Frame → Machine
-initial f = record { phase = phase.Start f; frames = []; deepest = 0; cutter = record { key_start = 0; key_end = 0; value_start = 0; members = []; elements = [] } }
+initial f = record { phase = phase.Start f; frames = []; deepest = 0; cutter = uncut }
 
 -- what the whole text makes of the machine
 abbrev pub read_whole : Frame → List ℕ → Machine
@@ -161,6 +165,38 @@ run_of (phase.Word l) = runs.Nothing
 run_of phase.Broken = runs.Nothing
 run_of _ = runs.Blanks
 
--- the machine may pass over a run of such bytes: what is left makes the same of it
-abbrev pub IsSkipped : Run → List ℕ → List ℕ → Type 0
-IsSkipped kind text rest = (size : ℕ) (m : Machine) → run_of m.phase ≡ kind → run size m rest ≡ run size m text
+-- what bytes make of the machine, of which the first stands at this place
+abbrev pub over : ℕ → Machine → List ℕ → Machine
+over at m [] = m
+over at m (b ∷ bs) = over (at + 1) (stepped m b at (at + 1)) bs
+
+-- the bytes from one place up to another
+abbrev pub between : List ℕ → ℕ → ℕ → List ℕ
+between text from to = take (to - from) (drop from text)
+
+-- what they make of the machine
+unfoldable pub read_to : List ℕ → Machine → ℕ → ℕ → Machine
+read_to text m from to = over from m (between text from to)
+
+-- the machine may pass over a run of such bytes: they leave it as it is
+abbrev pub IsSkipped : Run → List ℕ → Type 0
+IsSkipped kind passed = (at : ℕ) (m : Machine) → run_of m.phase ≡ kind → over at m passed ≡ m
+
+-- the machine has read the text from one place to another
+pub record IsTaken (text : List ℕ) (m : Machine) (from : ℕ) (after : Machine) (to : ℕ) : Type 0 where
+  pub ordered : from ≤ to
+  pub inside : to ≤ length text
+  pub made : after ≡ read_to text m from to
+
+-- a move that is the same whatever byte makes it
+abbrev pub IsSimple : Move → Type 0
+IsSimple moves.EndNumber = ⊥
+IsSimple _ = Unit {0}
+
+-- a number that may end here
+abbrev pub IsEnding : Phase → Type 0
+IsEnding (phase.Number part.Zero) = Unit {0}
+IsEnding (phase.Number part.Whole) = Unit {0}
+IsEnding (phase.Number part.Fraction) = Unit {0}
+IsEnding (phase.Number part.Exponent) = Unit {0}
+IsEnding _ = ⊥

@@ -4,8 +4,7 @@ ghost use Rattle.json_span.specs.Members.{AreMembers, IsNoObject, IsDeeper, HasO
 ghost use Rattle.json_span.specs.Machine.{read_whole};
 
 use crate::machine::Machine;
-use crate::phase::{Frame, is_done, run_at};
-use crate::skip::skip;
+use crate::phase::{Frame, is_done};
 use crate::{MAX_DEPTH, MemberList, SpanFault};
 use basics::NoMemory;
 use std::alloc::Global;
@@ -17,9 +16,7 @@ pub fn read(alloc: Global, text: &[u8], frame: Frame) -> Result<Machine, NoMemor
     let mut machine = Machine::new(alloc, frame);
     let mut at = 0;
     while at < text.len() {
-        machine.step(text[at], at as u64)?;
-        at += 1;
-        at = skip(text, at, run_at(machine.phase));
+        at = machine.take(text, at)?;
     }
     Ok(machine)
 }

@@ -16,7 +16,18 @@ pub struct Cutter {
 
 impl Cutter {
     ghost use Rattle.std.specs.Prelude.{◌≡◌, OnOk};
-    ghost use Rattle.json_span.specs.Machine.{key_begun, key_ended, value_begun, ended_in, value_ended};
+    ghost use Rattle.json_span.specs.Machine.{uncut, key_begun, key_ended, value_begun, ended_in, value_ended};
+
+    /// Forgets what has been cut, and keeps the memory.
+    pub fn restart(&mut self)
+        ensures { self.new ≡ uncut }
+    {
+        self.key_start = 0;
+        self.key_end = 0;
+        self.value_start = 0;
+        self.members.clear();
+        self.elements.clear();
+    }
 
     /// A key begins here.
     #[inline(always)]

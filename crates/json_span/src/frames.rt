@@ -20,8 +20,9 @@ impl Model for Frames {
 }
 
 impl Frames {
-    ghost use Rattle.std.specs.Prelude.{◌≡◌, [], ◌∷◌, List, OnOk, length, MatchOption};
+    ghost use Rattle.std.specs.Prelude.{◌≡◌, [], ◌∷◌, List, OnOk, IsTrue, length, MatchOption};
     ghost use Rattle.json_span.specs.declared.phase.Frame.{Frame};
+    ghost use Rattle.json_span.specs.declared.phase.Frame.TheVariants as frame;
     ghost use Rattle.json_span.specs.Machine.{is_outermost, is_innermost, outer};
 
     /// Nothing is open.
@@ -46,6 +47,13 @@ impl Frames {
     {
         self.frames.push(frame)?;
         Ok(())
+    }
+
+    /// Shuts all.
+    pub fn clear(&mut self)
+        ensures { self.new ≡ [] }
+    {
+        self.frames.clear();
     }
 
     /// Shuts the innermost.
@@ -73,6 +81,17 @@ impl Frames {
         ensures { MatchOption result (self.now ≡ []) (λ frame. (rest : List Frame) × (self.now ≡ frame ∷ rest)) }
     {
         self.frames.last().copied()
+    }
+
+    /// Whether one object is open, and no more.
+    #[inline(always)]
+    pub fn is_one_object(&self) -> bool
+        ensures { IsTrue result → self.now ≡ frame.Object ∷ [] }
+    {
+        match self.innermost() {
+            Some(Frame::Object) => self.is_outermost(),
+            _ => false,
+        }
     }
 
     /// Whether one is open, and no more.

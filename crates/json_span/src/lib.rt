@@ -1,9 +1,8 @@
 //! Cuts JSON texts (RFC 8259) without copying: the places of an object's members, and of an array's elements.
 #![tactic(auto)]
 
-pub use json_scalar::{is_string_of, quote, text_of, whole_of};
 use basics::{NoMemory, Sequence};
-pub use text_lines::next_line;
+pub use json_scalar::{is_string_of, quote, text_of, whole_of};
 
 /// Arrays and objects nest at most so deep.
 pub const MAX_DEPTH: usize = 127;
@@ -71,10 +70,14 @@ mod class;
 mod cut;
 mod cutter;
 mod frames;
+mod levels;
 mod machine;
 mod phase;
+mod reader;
 mod skip;
 mod table;
+mod token;
 
 pub use array::{elements, elements_within, is_array};
 pub use cut::{is_object, members, members_within, no_object_in_front};
+pub use levels::DeepMembers;

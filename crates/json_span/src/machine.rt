@@ -1,4 +1,5 @@
 // The machine that reads an object or an array byte by byte, with what is open on a stack of its own.
+use crate::MAX_DEPTH;
 use crate::class::classify;
 use crate::cutter::Cutter;
 use crate::frames::Frames;
@@ -17,8 +18,9 @@ pub struct Machine {
 }
 
 impl Machine {
-    ghost use Rattle.std.specs.Prelude.{◌≡◌, ◌+◌, ◌<◌, ◌^◌, OnOk, length};
+    ghost use Rattle.std.specs.Prelude.{◌≡◌, ◌+◌, ◌<◌, ◌≤◌, ◌^◌, OnOk, length};
     ghost use Rattle.json_span.specs.Machine.{initial, opened, closed, made, moved, stepped};
+    ghost use Rattle.json_span.specs.Reading.{passed};
 
     /// Nothing has been read of an array, or of an object.
     pub fn new(alloc: Global, frame: Frame) -> Self
@@ -36,6 +38,28 @@ impl Machine {
                 elements: Sequence::new(alloc),
             },
         }
+    }
+
+    /// Forgets what has been read, and keeps the memory.
+    pub fn restart(&mut self, frame: Frame)
+        ensures { self.new ≡ initial frame }
+    {
+        self.phase = Phase::Start(frame);
+        self.frames.clear();
+        self.deepest = 0;
+        self.cutter.restart();
+    }
+
+    /// A member's value between these places has been read, and it nests so deep.
+    pub fn pass_object(&mut self, from: u64, to: u64, deep: usize) -> Result<(), NoMemory>
+        requires { deep ≤ MAX_DEPTH }
+        ensures { OnOk result (self.new ≡ passed self.old from to deep) }
+    {
+        self.cutter.begin_value(&self.frames, from);
+        self.cutter.end_value(&self.frames, to)?;
+        self.deepest = self.deepest.max(deep + 1);
+        self.phase = Phase::After;
+        Ok(())
     }
 
     /// An array or an object begins here.
@@ -71,7 +95,7 @@ impl Machine {
 
     /// Makes a move at this place.
     #[inline(always)]
-    fn make(&mut self, next: Move, here: u64) -> Result<(), NoMemory>
+    pub fn make(&mut self, next: Move, here: u64) -> Result<(), NoMemory>
         requires { here + 1 < 2 ^ 64 }
         ensures { OnOk result (self.new ≡ made next self.old here (here + 1)) }
     {

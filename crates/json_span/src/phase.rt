@@ -158,3 +158,12 @@ pub fn is_done(phase: Phase) -> bool
         _ => false,
     }
 }
+
+/// Whether there is nothing more to read: the object or the array has been read, or the text is none.
+#[inline(always)]
+pub fn is_over(phase: Phase) -> bool {
+    match phase {
+        Phase::Done | Phase::Broken => true,
+        _ => false,
+    }
+}

@@ -1,18 +1,22 @@
 // Passing over runs of bytes that leave the machine as it is.
-ghost use Rattle.std.specs.Prelude.{◌≡◌, ◌≤◌, length, drop, IsTrue};
-ghost use Rattle.json_span.specs.Machine.{IsSkipped};
+ghost use Rattle.std.specs.Prelude.{◌≡◌, ◌+◌, ◌≤◌, length, drop, map, IsTrue};
+ghost use Rattle.std.specs.List.{prefix_len};
+ghost use Rattle.std.specs.Simd.Lanes.{mask_l};
+ghost use Rattle.json_span.specs.Machine.{IsSkipped, between};
+ghost use Rattle.json_span.specs.Plain.{is_stop, is_plain_byte};
 ghost use Rattle.json_span.specs.Table.{class_of};
 ghost use Rattle.json_span.specs.declared.class.Class.TheVariants as class;
 ghost use Rattle.json_span.specs.declared.phase.Run.TheVariants as runs;
 
 use crate::phase::Run;
+use std::simd::prelude::*;
 
 /// The place of the first byte from here on that may change the machine, or the end.
 #[inline(always)]
 pub fn skip(text: &[u8], from: usize, run: Run) -> usize
     requires { from ≤ length text.now }
     ensures range { (from ≤ result) × (result ≤ length text.now) }
-    ensures skipped { IsSkipped run (drop from text.now) (drop result text.now) }
+    ensures skipped { IsSkipped run (between text.now from result) }
 {
     match run {
         Run::Plain => skip_plain(text, from),
@@ -27,10 +31,47 @@ pub fn skip(text: &[u8], from: usize, run: Run) -> usize
 fn skip_plain(text: &[u8], from: usize) -> usize
     requires { from ≤ length text.now }
     ensures range { (from ≤ result) × (result ≤ length text.now) }
-    ensures skipped { IsSkipped runs.Plain (drop from text.now) (drop result text.now) }
+    ensures skipped { IsSkipped runs.Plain (between text.now from result) }
+{
+    plain_end(text, from)
+}
+
+/// Which of 16 bytes do not stand for themselves in a string, a bit for each.
+#[inline(always)]
+fn stops(lanes: u8x16) -> u64
+    ensures { result ≡ mask_l (map is_stop lanes) }
+{
+    (lanes.simd_eq(u8x16::splat(b'"'))
+        | lanes.simd_eq(u8x16::splat(b'\\'))
+        | lanes.simd_lt(u8x16::splat(0x20))).to_bitmask()
+}
+
+/// The end of a run of bytes that stand for themselves in a string, 16 at a time.
+#[inline(always)]
+fn plain_end(text: &[u8], from: usize) -> usize
+    requires { from ≤ length text.now }
+    ensures value { result ≡ from + prefix_len is_plain_byte (drop from text.now) }
+    ensures bound { result ≤ length text.now }
 {
     let mut at = from;
-    while at < text.len() && text[at] >= b' ' && text[at] != b'"' && text[at] != b'\\' {
+    while text.len() - at >= 16 {
+        let found = stops(u8x16::from_slice(&text[at..]));
+        if found != 0 {
+            return at + found.trailing_zeros() as usize;
+        }
+        at += 16;
+    }
+    last_plain_end(text, at)
+}
+
+/// The end of such a run, byte by byte.
+#[inline(always)]
+fn last_plain_end(text: &[u8], from: usize) -> usize
+    requires { from ≤ length text.now }
+    ensures { result ≡ from + prefix_len is_plain_byte (drop from text.now) }
+{
+    let mut at = from;
+    while at < text.len() && text[at] != b'"' && text[at] != b'\\' && text[at] >= 0x20 {
         at += 1;
     }
     at
@@ -41,7 +82,7 @@ fn skip_plain(text: &[u8], from: usize) -> usize
 fn skip_digits(text: &[u8], from: usize) -> usize
     requires { from ≤ length text.now }
     ensures range { (from ≤ result) × (result ≤ length text.now) }
-    ensures skipped { IsSkipped runs.Digits (drop from text.now) (drop result text.now) }
+    ensures skipped { IsSkipped runs.Digits (between text.now from result) }
 {
     let mut at = from;
     while at < text.len() && text[at] >= b'0' && text[at] <= b'9' {
@@ -55,7 +96,7 @@ fn skip_digits(text: &[u8], from: usize) -> usize
 fn skip_blanks(text: &[u8], from: usize) -> usize
     requires { from ≤ length text.now }
     ensures range { (from ≤ result) × (result ≤ length text.now) }
-    ensures skipped { IsSkipped runs.Blanks (drop from text.now) (drop result text.now) }
+    ensures skipped { IsSkipped runs.Blanks (between text.now from result) }
 {
     let mut at = from;
     while at < text.len() && text[at] <= b' ' && is_blank(text[at]) {

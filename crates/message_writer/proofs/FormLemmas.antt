@@ -6,7 +6,8 @@ use Rattle.json_span.specs.Members.{IsValue, IsSomeObject}
 use Rattle.json_span.specs.Elements.{IsSomeArray}
 use Rattle.json_fields.specs.Fields.{HasField, HasOptional, HasText, HasOptionalText, Holds, IsOptionalText, present}
 use Rattle.basics.specs.declared.stream.StreamId.{StreamId}
-use Rattle.airbyte_message.specs.Parts.{IsStreamId, NestsWithin, IsOptionalNumber}
+use Rattle.json_fields.specs.Parts.{NestsWithin, IsOptionalNumber}
+use Rattle.airbyte_message.specs.Parts.{IsStreamId}
 use Rattle.airbyte_message.specs.States.{IsState}
 use Rattle.airbyte_message.specs.Traces.{IsTrace, IsTold}
 use Rattle.airbyte_message.specs.Messages.{IsRecord, IsControl, IsPayload}
@@ -21,10 +22,11 @@ use Rattle.airbyte_message.specs.declared.message.TraceMsg.TheVariants as trace
 use Rattle.airbyte_message.specs.declared.message.RecordMsg.{RecordMsg}
 use Rattle.airbyte_message.specs.declared.message.StateMsg.{StateMsg}
 use Rattle.airbyte_message.specs.declared.message.ControlMsg.{ControlMsg}
-use Rattle.message_writer.specs.Forms.{IsValueWithin, IsObjectPart, IsArrayPart, IsOptionalPart, IsOptionalUtf8, HasNames, HasRecordForms, HasStateForms, HasTraceForms, HasControlForms, HasForms, payload_depth, part_depth, ReadHasForms}
-use Rattle.message_writer.proofs.Depths.{object_deep, array_value_deep}
-use Rattle.message_writer.proofs.Meanings.{meaning_utf8}
-use Rattle.message_writer.proofs.HeldValues.{values_within, holds_has, field_within}
+use Rattle.json_write.specs.Values.{IsValueWithin, IsOptionalUtf8}
+use Rattle.message_writer.specs.Forms.{IsObjectPart, IsArrayPart, IsOptionalPart, HasNames, HasRecordForms, HasStateForms, HasTraceForms, HasControlForms, HasForms, payload_depth, part_depth, ReadHasForms}
+use Rattle.json_write.proofs.Depths.{object_deep, array_value_deep}
+use Rattle.json_write.proofs.Meanings.{meaning_utf8}
+use Rattle.json_write.proofs.HeldValues.{values_within, holds_has, field_within}
 
 -- ---- texts
 

@@ -1,11 +1,4 @@
-pub mod Depths
-pub mod Fields
 pub mod FormLemmas
-pub mod HeldValues
-pub mod Meanings
-pub mod Numerals
 pub mod Payloads
 pub mod Sounds
-pub mod Strings
 pub mod Texts
-pub mod Trees

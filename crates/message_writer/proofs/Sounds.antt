@@ -1,77 +1,13 @@
--- The parts of a message are values that nest little, under names that are words.
-use Rattle.std.proofs.Common.{◌≡◌, ℕ, ◌+◌, ◌<◌, ◌≤◌, ◌^◌, Bool, true, false, List, [], ◌∷◌, ◌++◌, Option, None, Some, option_map, IsUtf8, refl, sym, subst, arith}
-use Rattle.std.specs.Prelude.{if◌then◌else◌}
-use Rattle.std.proofs.lemmas.Bool.{lt-ltb}
-use Rattle.std.proofs.lemmas.Str.{IsUtf8-append, IsUtf8-nil}
-use Rattle.std.specs.Fmt.{decimal}
-use Rattle.json.specs.Print.{quoted}
-use Rattle.json_scalar.specs.Number.{Digit, Digits, Sign, unsigned, plus, minus, Exponent, Literal, digits_text, whole_digits, all_digits, sign_text, fraction_text, exponent_text, literal_text}
-use Rattle.json_span.specs.Grammar as json
-use Rattle.json_span.specs.Grammar.{depth}
-use Rattle.json_span.specs.Members.{IsValue, IsSomeObject}
+-- The parts of a message are values that nest little.
+use Rattle.std.proofs.Common.{◌≡◌, ℕ, List, Option, None, Some, refl}
+use Rattle.json_span.specs.Members.{IsSomeObject}
 use Rattle.json_span.specs.Elements.{IsSomeArray}
-use Rattle.airbyte_message.specs.Parts.{IsNumber, IsOptionalNumber, NestsWithin}
-use Rattle.message_writer.specs.Objects.{Part, optional}
-use Rattle.message_writer.specs.Forms.{IsValueWithin, IsObjectPart, IsArrayPart, IsOptionalPart, IsOptionalUtf8, part_depth}
-use Rattle.message_writer.proofs.Depths.{object_within, array_within}
-use Rattle.message_writer.proofs.Numerals.{decimal_literal}
-use Rattle.message_writer.proofs.Strings.{is_word, quoted_string, utf8_before}
-use Rattle.message_writer.proofs.Trees.{AreSound}
-
-pub within_more : (limit outer : ℕ) (text : List ℕ) → limit ≤ outer → IsValueWithin limit text → IsValueWithin outer text
-within_more limit outer text le v = record { is = v.is; within = (let h = v.within in omega arith) }
-
-pub text_within : (limit : ℕ) (text : List ℕ) → IsUtf8 text → IsValueWithin limit (quoted text)
-text_within limit text u =
-    let s = quoted_string text u in
-    record { is = record { utf8 = s.utf8; value = json.string s.pieces; spelled = s.spelled }; within = omega arith }
-
--- ---- numbers
-
-digits_utf8 : (digits : List Digit) → IsUtf8 (digits_text digits)
-digits_utf8 [] = IsUtf8-nil
-digits_utf8 (d ∷ digits) = let small = d.small in utf8_before (48 + d.value) (digits_text digits) (lt-ltb (48 + d.value) 128 (omega arith)) (digits_utf8 digits)
-
-fraction_utf8 : (f : Option Digits) → IsUtf8 (fraction_text f)
-fraction_utf8 None = IsUtf8-nil
-fraction_utf8 (Some d) = utf8_before 46 (digits_text (all_digits d)) refl (digits_utf8 (all_digits d))
-
-sign_utf8 : (s : Sign) → IsUtf8 (sign_text s)
-sign_utf8 unsigned = IsUtf8-nil
-sign_utf8 plus = utf8_before 43 [] refl IsUtf8-nil
-sign_utf8 minus = utf8_before 45 [] refl IsUtf8-nil
-
-mark_utf8 : (capital : Bool) (rest : List ℕ) → IsUtf8 rest → IsUtf8 ((if capital then 69 else 101) ∷ rest)
-mark_utf8 true rest u = utf8_before 69 rest refl u
-mark_utf8 false rest u = utf8_before 101 rest refl u
-
-exponent_utf8 : (e : Option Exponent) → IsUtf8 (exponent_text e)
-exponent_utf8 None = IsUtf8-nil
-exponent_utf8 (Some e) = mark_utf8 e.is_capital (sign_text e.sign ++ digits_text (all_digits e.digits)) (IsUtf8-append (sign_text e.sign) (digits_text (all_digits e.digits)) (sign_utf8 e.sign) (digits_utf8 (all_digits e.digits)))
-
-minus_utf8 : (negative : Bool) → IsUtf8 (if negative then 45 ∷ [] else [])
-minus_utf8 true = utf8_before 45 [] refl IsUtf8-nil
-minus_utf8 false = IsUtf8-nil
-
-literal_utf8 : (l : Literal) → IsUtf8 (literal_text l)
-literal_utf8 l =
-    IsUtf8-append (if l.is_negative then 45 ∷ [] else []) (digits_text (whole_digits l.whole) ++ (fraction_text l.fraction ++ exponent_text l.exponent)) (minus_utf8 l.is_negative)
-    (IsUtf8-append (digits_text (whole_digits l.whole)) (fraction_text l.fraction ++ exponent_text l.exponent) (digits_utf8 (whole_digits l.whole))
-    (IsUtf8-append (fraction_text l.fraction) (exponent_text l.exponent) (fraction_utf8 l.fraction) (exponent_utf8 l.exponent)))
-
-pub number_within : (limit : ℕ) (text : List ℕ) → IsNumber text → IsValueWithin limit text
-number_within limit text number = record {
-  is = record { utf8 = subst IsUtf8 (sym number.spelled) (literal_utf8 number.literal); value = json.number number.literal; spelled = number.spelled };
-  within = omega arith;
-}
-
-pub decimal_within : (limit n : ℕ) → n < 2 ^ 63 → IsValueWithin limit (decimal n)
-decimal_within limit n small = let w = decimal_literal n small in number_within limit (decimal n) (record { literal = w.literal; spelled = w.spelled })
-
--- ---- objects and arrays
-
-pub nested_within : (limit : ℕ) (text : List ℕ) → IsValue text → NestsWithin limit text → IsValueWithin limit text
-nested_within limit text value nests = object_within limit text nests.members value nests.object
+use Rattle.json_write.specs.Values.{IsValueWithin, IsOptionalWithin}
+use Rattle.json_write.proofs.Depths.{array_within}
+use Rattle.json_write.proofs.Fields.{shown_present}
+use Rattle.json_write.proofs.Values.{nested_within}
+use Rattle.json_fields.specs.Fields.{present}
+use Rattle.message_writer.specs.Forms.{IsObjectPart, IsArrayPart, IsOptionalPart, part_depth}
 
 pub object_part_within : (text : List ℕ) → IsObjectPart text → IsValueWithin part_depth text
 object_part_within text h = nested_within part_depth text h.value h.nests
@@ -85,24 +21,10 @@ array_part_within text h = array_within part_depth text h.spans h.value h.nests
 pub array_part_is : (text : List ℕ) → IsArrayPart text → IsSomeArray text
 array_part_is text h = record { deep = h.nests.deep; spans = h.spans; array = h.nests.array }
 
--- ---- optional values
-
-abbrev pub IsOptionalWithin : ℕ → Option (List ℕ) → Type 0
-IsOptionalWithin limit None = Unit {0}
-IsOptionalWithin limit (Some text) = IsValueWithin limit text
-
-pub optional_text_within : (limit : ℕ) (text : Option (List ℕ)) → IsOptionalUtf8 text → IsOptionalWithin limit (option_map quoted text)
-optional_text_within limit None u = tt
-optional_text_within limit (Some text) u = text_within limit text u
-
-pub optional_number_within : (limit : ℕ) (text : Option (List ℕ)) → IsOptionalNumber text → IsOptionalWithin limit text
-optional_number_within limit None number = tt
-optional_number_within limit (Some text) number = number_within limit text number
-
 pub optional_part_within : (text : Option (List ℕ)) → IsOptionalPart text → IsOptionalWithin part_depth text
 optional_part_within None part = tt
 optional_part_within (Some text) part = part.value
 
-pub optional_sound : (limit : ℕ) (name : List ℕ) (value : Option (List ℕ)) (parts : List Part) → is_word name ≡ true → IsOptionalWithin limit value → AreSound limit parts → AreSound limit (optional name value parts)
-optional_sound limit name None parts word value s = s
-optional_sound limit name (Some text) parts word value s = (record { name = word; value = value }, s)
+pub part_present : (held : Option (List ℕ)) → IsOptionalPart held → held ≡ present held
+part_present None h = refl
+part_present (Some held) h = shown_present held h.shown

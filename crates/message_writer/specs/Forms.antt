@@ -1,13 +1,13 @@
 -- The forms that the parts of a message have, so that its line can be read: what the protocol (Airbyte Protocol,
 -- version 0) asks of the members that hold them, and no more.
-use Rattle.std.specs.Prelude.{◌≢◌, ℕ, ◌-◌, ◌<◌, ◌≤◌, ◌^◌, List, Option, None, Some, IsUtf8, codes}
-use Rattle.json_span.specs.Grammar.{depth}
+use Rattle.std.specs.Prelude.{◌≢◌, ℕ, ◌-◌, ◌<◌, ◌^◌, List, Option, None, Some, IsUtf8, codes}
 use Rattle.json_span.specs.Members.{IsValue}
 use Rattle.json_span.specs.Elements.{AreElements}
 use Rattle.json_span.specs.declared.Span.{Span}
 use Rattle.json_fields.specs.Fields.{line_depth}
+use Rattle.json_write.specs.Values.{IsValueWithin, IsOptionalUtf8}
 use Rattle.basics.specs.declared.stream.StreamId.{StreamId}
-use Rattle.airbyte_message.specs.Parts.{IsOptionalNumber, NestsWithin}
+use Rattle.json_fields.specs.Parts.{IsOptionalNumber, NestsWithin}
 use Rattle.airbyte_message.specs.States.{IsState}
 use Rattle.airbyte_message.specs.Traces.{IsTrace}
 use Rattle.airbyte_message.specs.Messages.{IsControl, IsMessage}
@@ -18,11 +18,6 @@ use Rattle.airbyte_message.specs.declared.message.StateMsg.{StateMsg}
 use Rattle.airbyte_message.specs.declared.message.TraceMsg.{TraceMsg}
 use Rattle.airbyte_message.specs.declared.message.TraceMsg.TheVariants as trace
 use Rattle.airbyte_message.specs.declared.message.ControlMsg.{ControlMsg}
-
--- the text is a JSON value in UTF-8, without white space around it, that nests at most so deep
-pub record IsValueWithin (limit : ℕ) (text : List ℕ) : Type 0 where
-  pub is : IsValue text
-  pub within : depth is.value ≤ limit
 
 -- what a line tells nests in one object, the line, and a part of that in two
 abbrev pub payload_depth : ℕ
@@ -51,11 +46,6 @@ pub record IsShownPart (text : List ℕ) : Type 0 where
 abbrev pub IsOptionalPart : Option (List ℕ) → Type 0
 IsOptionalPart None = Unit {0}
 IsOptionalPart (Some text) = IsShownPart text
-
--- absent, or a text
-abbrev pub IsOptionalUtf8 : Option (List ℕ) → Type 0
-IsOptionalUtf8 None = Unit {0}
-IsOptionalUtf8 (Some text) = IsUtf8 text
 
 -- the stream's names are texts
 pub record HasNames (id : StreamId) : Type 0 where

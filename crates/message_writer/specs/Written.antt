@@ -19,36 +19,36 @@ use Rattle.airbyte_message.specs.declared.message.LogMsg.{LogMsg}
 use Rattle.airbyte_message.specs.declared.message.SpecMsg.{SpecMsg}
 use Rattle.airbyte_message.specs.declared.message.ConnectionMsg.{ConnectionMsg}
 use Rattle.airbyte_message.specs.declared.message.CatalogMsg.{CatalogMsg}
-use Rattle.message_writer.specs.Objects.{Part, object_text, optional}
+use Rattle.json_write.specs.Objects.{Part, named, object_text, optional}
 
 -- a stream: its name in the member of this name, and its namespace where it has one
 abbrev pub id_parts : List ℕ → StreamId → List Part → List Part
-id_parts member id parts = (member, quoted id.name) ∷ optional (codes "namespace") (option_map quoted id.namespace) parts
+id_parts member id parts = named member (quoted id.name) ∷ optional (codes "namespace") (option_map quoted id.namespace) parts
 
 abbrev pub record_text : RecordMsg → List ℕ
-record_text content = object_text (id_parts (codes "stream") content.id ((codes "data", content.body) ∷ (codes "emitted_at", decimal content.emitted_at) ∷ optional (codes "meta") content.meta []))
+record_text content = object_text (id_parts (codes "stream") content.id (named (codes "data") content.body ∷ named (codes "emitted_at") (decimal content.emitted_at) ∷ optional (codes "meta") content.meta []))
 
 abbrev pub log_text : LogMsg → List ℕ
-log_text content = object_text ((codes "level", quoted (level_text content.level)) ∷ (codes "message", quoted content.text) ∷ [])
+log_text content = object_text (named (codes "level") (quoted (level_text content.level)) ∷ named (codes "message") (quoted content.text) ∷ [])
 
 abbrev pub spec_text : SpecMsg → List ℕ
-spec_text content = object_text ((codes "connectionSpecification", content.specification) ∷ [])
+spec_text content = object_text (named (codes "connectionSpecification") content.specification ∷ [])
 
 abbrev pub status_object : ConnectionMsg → List ℕ
-status_object content = object_text ((codes "status", quoted (connection_text content.succeeded)) ∷ optional (codes "message") (option_map quoted content.text) [])
+status_object content = object_text (named (codes "status") (quoted (connection_text content.succeeded)) ∷ optional (codes "message") (option_map quoted content.text) [])
 
 abbrev pub catalog_text : CatalogMsg → List ℕ
-catalog_text content = object_text ((codes "streams", content.streams) ∷ [])
+catalog_text content = object_text (named (codes "streams") content.streams ∷ [])
 
 -- a trace of this type with one member more
 abbrev pub told_text : TraceType → Option (List ℕ) → List ℕ → List ℕ → List ℕ
-told_text type emitted_at name value = object_text ((codes "type", quoted (trace_text type)) ∷ optional (codes "emitted_at") emitted_at ((name, value) ∷ []))
+told_text type emitted_at name value = object_text (named (codes "type") (quoted (trace_text type)) ∷ optional (codes "emitted_at") emitted_at (named name value ∷ []))
 
 abbrev pub error_text : List ℕ → Option FailureType → List ℕ
-error_text text failure = object_text ((codes "message", quoted text) ∷ optional (codes "failure_type") (option_map (λ f. quoted (failure_text f)) failure) [])
+error_text text failure = object_text (named (codes "message") (quoted text) ∷ optional (codes "failure_type") (option_map (λ f. quoted (failure_text f)) failure) [])
 
 abbrev pub stream_status_text : StreamId → StreamStatus → List ℕ
-stream_status_text id status = object_text ((codes "stream_descriptor", object_text (id_parts (codes "name") id [])) ∷ (codes "status", quoted (status_text status)) ∷ [])
+stream_status_text id status = object_text (named (codes "stream_descriptor") (object_text (id_parts (codes "name") id [])) ∷ named (codes "status") (quoted (status_text status)) ∷ [])
 
 abbrev pub trace_object : TraceMsg → List ℕ
 trace_object (trace.Error text failure emitted_at) = told_text trace_types.Error emitted_at (codes "error") (error_text text failure)
@@ -79,7 +79,7 @@ payload_of (message.Control content) = content.object
 
 -- a line of this type
 abbrev pub line_text : MessageType → List ℕ → List ℕ
-line_text type payload = object_text ((codes "type", quoted (type_text type)) ∷ (payload_text type, payload) ∷ [])
+line_text type payload = object_text (named (codes "type") (quoted (type_text type)) ∷ named (payload_text type) payload ∷ [])
 
 -- the line of a message
 abbrev pub written : Message → List ℕ

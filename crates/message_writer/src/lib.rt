@@ -1,7 +1,6 @@
 //! Airbyte messages, written as lines.
 #![tactic(auto)]
 
-mod object;
 mod parts;
 mod payload;
 mod trace;

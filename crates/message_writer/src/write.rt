@@ -1,69 +1,68 @@
 // The line of a message.
 ghost use Rattle.std.specs.Prelude.{◌≡◌, ◌++◌, IfOk, OnOk};
-ghost use Rattle.airbyte_message.specs.Words.{payload_text, type_text};
 ghost use Rattle.airbyte_message.specs.Messages.{IsMessage};
+ghost use Rattle.airbyte_message.specs.declared.message.Message.{Message};
 ghost use Rattle.message_writer.specs.Forms.{HasForms, ReadHasForms};
 ghost use Rattle.message_writer.specs.Written.{payload_of, type_of, written};
 
-use crate::object::{put_name, put_text};
 use crate::payload::{put_catalog, put_connection, put_log, put_record, put_spec};
 use crate::trace::put_trace;
-use airbyte_message::Message;
+use airbyte_message::{Message, MessageType};
 use basics::{Bytes, NoMemory};
+use json_write::{put_key, put_string_member};
 use std::alloc::Global;
 
+// The bytes of a line around the largest part of its message, in most cases.
+const ENVELOPE: usize = 256;
+
 // The type of a message's line.
-fn type_name(message: &Message) -> &'static str
-    ensures { result.now ≡ type_text (type_of message.now) }
+fn kind_of(message: &Message) -> MessageType
+    ensures { result ≡ type_of message.now }
 {
     match message {
-        Message::Rec(_) => "RECORD",
-        Message::State(_) => "STATE",
-        Message::Log(_) => "LOG",
-        Message::Spec(_) => "SPEC",
-        Message::Connection(_) => "CONNECTION_STATUS",
-        Message::Catalog(_) => "CATALOG",
-        Message::Trace(_) => "TRACE",
-        Message::Control(_) => "CONTROL",
+        Message::Rec(_) => MessageType::Rec,
+        Message::State(_) => MessageType::State,
+        Message::Log(_) => MessageType::Log,
+        Message::Spec(_) => MessageType::Spec,
+        Message::Connection(_) => MessageType::Connection,
+        Message::Catalog(_) => MessageType::Catalog,
+        Message::Trace(_) => MessageType::Trace,
+        Message::Control(_) => MessageType::Control,
     }
 }
 
-// The name of the member that holds what the line tells.
-fn payload_name(message: &Message) -> &'static str
-    ensures { result.now ≡ payload_text (type_of message.now) }
-{
-    match message {
-        Message::Rec(_) => "record",
-        Message::State(_) => "state",
-        Message::Log(_) => "log",
-        Message::Spec(_) => "spec",
-        Message::Connection(_) => "connectionStatus",
-        Message::Catalog(_) => "catalog",
-        Message::Trace(_) => "trace",
-        Message::Control(_) => "control",
-    }
+// The room that a line needs, or nearly so.
+fn room_of(message: &Message) -> usize {
+    let largest = match message {
+        Message::Rec(content) => content.body.len(),
+        Message::State(content) => content.object.len(),
+        Message::Spec(content) => content.specification.len(),
+        Message::Catalog(content) => content.streams.len(),
+        Message::Control(content) => content.object.len(),
+        _ => 0,
+    };
+    largest.saturating_add(ENVELOPE)
 }
 
 // Puts an object as it stands.
-fn put_object(text: &mut Vec<u8>, object: &[u8]) -> Result<(), NoMemory>
-    ensures { OnOk result (text.new.items ≡ text.old.items ++ object.now) }
+fn put_object(text: &mut Bytes, object: &[u8]) -> Result<(), NoMemory>
+    ensures { OnOk result (text.new ≡ text.old ++ object.now) }
 {
-    text.extend_from_slice(object)?;
-    Ok(())
+    text.extend(object)
 }
 
 // Puts what the line tells.
-fn put_payload(alloc: Global, line: &mut Vec<u8>, message: &Message) -> Result<(), NoMemory>
-    ensures { OnOk result (line.new.items ≡ line.old.items ++ payload_of message.now) }
+fn put_payload(line: &mut Bytes, message: &Message) -> Result<(), NoMemory>
+    ensures { OnOk result (line.new ≡ line.old ++ payload_of message.now) }
 {
     match message {
-        Message::Rec(content) => put_record(alloc, line, content),
+        Message::Rec(content) => put_record(line, content),
         Message::State(content) => put_object(line, content.object.as_slice()),
-        Message::Log(content) => put_log(alloc, line, content),
+        Message::Log(content) => put_log(line, content),
         Message::Spec(content) => put_spec(line, content),
-        Message::Connection(content) => put_connection(alloc, line, content),
+        Message::Connection(content) => put_connection(line, content),
         Message::Catalog(content) => put_catalog(line, content),
-        Message::Trace(content) => put_trace(alloc, line, content),
+        Message::Trace(content) => put_trace(line, content),
         Message::Control(content) => put_object(line, content.object.as_slice()),
     }
 }
@@ -74,13 +73,15 @@ fn put_payload(alloc: Global, line: &mut Vec<u8>, message: &Message) -> Result<(
 pub fn write_message(alloc: Global, message: &Message) -> Result<Bytes, NoMemory>
     ensures written { IfOk result (λ line. line ≡ written message.now) }
     ensures reads_back { HasForms message.now → IfOk result (λ line. IsMessage line message.now) }
+    ensures only { HasForms message.now → IfOk result (λ line. (other : Message) → IsMessage line other → other ≡ message.now) }
 {
-    let mut line = Vec::new(alloc);
-    put_text(alloc, &mut line, b'{', "type", type_name(message))?;
-    put_name(&mut line, b',', payload_name(message))?;
-    put_payload(alloc, &mut line, message)?;
+    let kind = kind_of(message);
+    let mut line = Bytes::with_capacity(alloc, room_of(message))?;
+    put_string_member(&mut line, b'{', "type", kind.text())?;
+    put_key(&mut line, b',', kind.payload())?;
+    put_payload(&mut line, message)?;
     line.push(b'}')?;
-    Ok(Bytes::from_vec(line))
+    Ok(line)
 }
 
 /// A law: every message that a line is has the forms, so that its own line is read as it.

@@ -2,3 +2,4 @@ pub mod WinnerLaws
 pub mod WinnerMapLemmas
 pub mod ToldLaws
 pub mod DockLaws
+pub mod Says

@@ -1,6 +1,9 @@
 pub mod Event
 pub mod Desk
 pub mod Link
+pub mod Faults
+pub mod Limits
+pub mod NoLink
 pub mod Status
 pub mod Winners
 pub mod WinnerMap

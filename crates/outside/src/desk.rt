@@ -1,7 +1,7 @@
 // The desk: where texts are read from, and where lines are said.
-ghost use Rattle.std.specs.Prelude.{◌≡◌, ◌≤◌, ℕ, List, [], ◌∷◌, Option, Some, IfOk, IfSome, OnOk, IsErrOf};
-ghost use Rattle.basics.specs.Told.{told_more, RoseIf};
-ghost use Rattle.outside.specs.Desk.{Texts, SaidOrNot};
+ghost use Rattle.std.specs.Prelude.{◌≡◌, [], ◌∷◌, Some, IfOk, IfSome, OnOk, IsErrOf};
+ghost use Rattle.basics.specs.Told.{RoseIf};
+ghost use Rattle.outside.specs.Desk.{DeskSeen, SaidLines, SaidFront};
 
 use crate::Fault;
 use basics::Bytes;
@@ -12,32 +12,26 @@ use std::alloc::Global;
 /// A call changes only what its clauses name. Where a desk tells its texts or its lines, the clauses on content
 /// hold; a real desk tells neither. Its two counts of faults never fall, and end at the largest `u64`.
 pub trait Desk {
-    /// The texts by name, where they are told.
-    ghost texts: { Self → Option Texts };
+    /// The texts and the lines said, each where it is told, and the counts of faults.
+    ghost seen: { Self → DeskSeen };
 
-    /// The lines said so far, where they are told.
-    ghost said: { Self → Option (List (List ℕ)) };
-
-    /// How often a text could not be read.
-    ghost read_faults: { Self → ℕ };
-
-    /// How often a line could not be said.
-    ghost say_faults: { Self → ℕ };
-
-    /// The whole text of that name. A missing one is `Failed`.
+    /// The whole text of that name. A missing one is `Failed`, which raises `read_faults`.
     fn read_text(&mut self, alloc: Global, name: &str) -> Result<Bytes, Fault>
-        ensures text { IfOk result (λ text. IfSome (texts self.old) (λ by_name. by_name name.now ≡ Some text)) }
-        ensures faults { RoseIf (IsErrOf result Fault.Failed) (read_faults self.old) (read_faults self.new) }
-        ensures texts { texts self.new ≡ texts self.old }
-        ensures said { said self.new ≡ said self.old }
-        ensures say_faults { say_faults self.new ≡ say_faults self.old };
+        ensures text { IfOk result (λ text. IfSome (seen self.old).texts (λ by_name. by_name name.now ≡ Some text)) }
+        ensures faults { RoseIf (IsErrOf result Fault.Failed) (seen self.old).read_faults (seen self.new).read_faults }
+        ensures others { seen self.new ≡ record (seen self.old) { read_faults = (seen self.new).read_faults } };
 
-    /// Says a line; the newline behind it is the desk's. At `Failed` the whole line was said, or nothing.
+    /// Says a line; the newline behind it is the desk's. At `Failed`, which raises `say_faults`, the whole line was
+    /// said, or nothing. A line that was said may wait in the desk until `flush`.
     fn say(&mut self, line: &[u8]) -> Result<(), Fault>
-        ensures ok { OnOk result (said self.new ≡ told_more (line.now ∷ []) (said self.old)) }
-        ensures whole_or_nothing { SaidOrNot line.now (said self.old) (said self.new) }
-        ensures no_memory { IsErrOf result Fault.NoMemory → said self.new ≡ said self.old }
-        ensures faults { RoseIf (IsErrOf result Fault.Failed) (say_faults self.old) (say_faults self.new) }
-        ensures texts { texts self.new ≡ texts self.old }
-        ensures read_faults { read_faults self.new ≡ read_faults self.old };
+        ensures ok { OnOk result (SaidLines (line.now ∷ []) (seen self.old) (seen self.new)) }
+        ensures front { SaidFront (IsErrOf result Fault.Failed) (line.now ∷ []) (seen self.old) (seen self.new) }
+        ensures no_memory { IsErrOf result Fault.NoMemory → SaidLines [] (seen self.old) (seen self.new) };
+
+    /// Writes out what was said. What could not be written is `Failed`, which raises `say_faults`; it stays said. It
+    /// takes no memory.
+    fn flush(&mut self) -> Result<(), Fault>
+        ensures no_memory { ¬ IsErrOf result Fault.NoMemory }
+        ensures faults { RoseIf (IsErrOf result Fault.Failed) (seen self.old).say_faults (seen self.new).say_faults }
+        ensures others { seen self.new ≡ record (seen self.old) { say_faults = (seen self.new).say_faults } };
 }

@@ -1,7 +1,6 @@
 // What happens in a load and in an attempt, as the list of events that an object may tell.
-ghost use Rattle.std.specs.Prelude.{◌≡◌, IfOk};
-
-use basics::{Boxed, Bytes, Name, Sequence, StreamId, StreamNo};
+use basics::{Boxed, Bytes, Copies, Name, NoMemory, Sequence, StreamId, StreamNo};
+use std::alloc::Global;
 
 /// A record as a destination keeps it. The texts are JSON, but for `raw_id`, `key` and `cursor`.
 #[derive(Debug, Drop)]
@@ -24,6 +23,24 @@ pub struct RawRow {
     pub meta: Bytes,
 }
 
+impl Copies for RawRow {
+    fn copy(&self, alloc: Global) -> Result<Self, NoMemory> {
+        Ok(RawRow {
+            load: self.load,
+            seq: self.seq,
+            generation: self.generation,
+            extracted_at: self.extracted_at,
+            loaded_at: self.loaded_at,
+            raw_id: self.raw_id.copy(alloc)?,
+            key: self.key.copy(alloc)?,
+            cursor: self.cursor.copy(alloc)?,
+            body: self.body.copy(alloc)?,
+            columns: self.columns.copy(alloc)?,
+            meta: self.meta.copy(alloc)?,
+        })
+    }
+}
+
 /// Rows in order.
 pub type RawRowList = Sequence<RawRow>;
 
@@ -35,6 +52,18 @@ pub struct StreamPlan {
     pub generation: u64,
     pub minimum: u64,
     pub hidden: bool,
+}
+
+impl Copies for StreamPlan {
+    fn copy(&self, alloc: Global) -> Result<Self, NoMemory> {
+        Ok(StreamPlan {
+            id: self.id.copy(alloc)?,
+            dedup: self.dedup,
+            generation: self.generation,
+            minimum: self.minimum,
+            hidden: self.hidden,
+        })
+    }
 }
 
 /// The plans of a load's streams, in the order of the catalog.
@@ -68,6 +97,34 @@ pub enum Job {
     },
 }
 
+impl Copies for Job {
+    fn copy(&self, alloc: Global) -> Result<Self, NoMemory> {
+        match self {
+            Job::Local => Ok(Job::Local),
+            Job::Sync {
+                source,
+                source_config,
+                dest,
+                dest_config,
+            } => Ok(Job::Sync {
+                source: source.copy(alloc)?,
+                source_config: source_config.copy(alloc)?,
+                dest: dest.copy(alloc)?,
+                dest_config: dest_config.copy(alloc)?,
+            }),
+            Job::Ask {
+                program,
+                kind,
+                config,
+            } => Ok(Job::Ask {
+                program: program.copy(alloc)?,
+                kind: *kind,
+                config: config.copy(alloc)?,
+            }),
+        }
+    }
+}
+
 /// What an attempt starts with.
 #[derive(Debug, Drop)]
 pub struct AttemptPlan {
@@ -80,6 +137,18 @@ pub struct AttemptPlan {
     pub catalog: Bytes,
     /// The saved states, as a JSON array.
     pub states: Bytes,
+}
+
+impl Copies for AttemptPlan {
+    fn copy(&self, alloc: Global) -> Result<Self, NoMemory> {
+        Ok(AttemptPlan {
+            number: self.number,
+            job: self.job.copy(alloc)?,
+            store: self.store.copy(alloc)?,
+            catalog: self.catalog.copy(alloc)?,
+            states: self.states.copy(alloc)?,
+        })
+    }
 }
 
 /// How a child ended.
@@ -146,6 +215,48 @@ pub enum Event {
     Saved(Bytes),
     /// Both children have ended.
     Ended(Codes),
+}
+
+impl Copies for Event {
+    fn copy(&self, alloc: Global) -> Result<Self, NoMemory> {
+        match self {
+            Event::Opened { load, moment, plan } => Ok(Event::Opened {
+                load: *load,
+                moment: *moment,
+                plan: plan.copy(alloc)?,
+            }),
+            Event::Took(line) => Ok(Event::Took(line.copy(alloc)?)),
+            Event::TookEnd => Ok(Event::TookEnd),
+            Event::Committed { stream, rows } => Ok(Event::Committed {
+                stream: *stream,
+                rows: rows.copy(alloc)?,
+            }),
+            Event::Emitted(line) => Ok(Event::Emitted(line.copy(alloc)?)),
+            Event::Merged {
+                stream,
+                winners,
+                mark,
+            } => Ok(Event::Merged {
+                stream: *stream,
+                winners: winners.copy(alloc)?,
+                mark: *mark,
+            }),
+            Event::Shown { stream, floor, top } => Ok(Event::Shown {
+                stream: *stream,
+                floor: *floor,
+                top: *top,
+            }),
+            Event::Started(plan) => Ok(Event::Started(plan.copy(alloc)?)),
+            Event::ReadLine(line) => Ok(Event::ReadLine(line.copy(alloc)?)),
+            Event::ReadEnd => Ok(Event::ReadEnd),
+            Event::Given(line) => Ok(Event::Given(line.copy(alloc)?)),
+            Event::Closed => Ok(Event::Closed),
+            Event::Got(line) => Ok(Event::Got(line.copy(alloc)?)),
+            Event::GotEnd => Ok(Event::GotEnd),
+            Event::Saved(text) => Ok(Event::Saved(text.copy(alloc)?)),
+            Event::Ended(codes) => Ok(Event::Ended(*codes)),
+        }
+    }
 }
 
 /// Events in the order in which they happened.

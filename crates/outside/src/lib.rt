@@ -6,11 +6,11 @@ mod desk;
 mod dock;
 mod event;
 mod fault;
+mod faults;
 mod line;
 mod link;
 mod load;
 mod no_link;
-mod row_copies;
 mod status;
 mod std_desk;
 mod table;
@@ -29,9 +29,10 @@ pub use event::{
     StreamPlan,
 };
 pub use fault::Fault;
-pub use line::StreamIdList;
+pub use faults::{Breach, CatalogFault, ConfigFault, InputKind, Side, StateFault};
+pub use line::{NumberedRow, NumberedRowList, SeqLine, SeqLineList, StreamIdList};
 pub use link::{Link, LinkCounts, LinkFace, Offered, PollKind, Polled};
-pub use load::{DockCounts, Load, Marks, MarksList, Unmerged};
+pub use load::{DockCounts, Limits, Load, Marks, MarksList, Unmerged};
 pub use no_link::NoLink;
 pub use status::Status;
 pub use std_desk::StdDesk;

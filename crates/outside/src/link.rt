@@ -6,7 +6,7 @@ ghost use Rattle.outside.specs.Event.{stored};
 ghost use Rattle.outside.specs.Link.{Seen, own_events, Grew, AddsOn, ReadAdds, GotAdds, OfferAdds, StopAdds, KeepsCodes, kind_of, started_face, stopped_face, QuietPoll, QuietOffer, QuietCodes};
 
 use crate::{AttemptPlan, Codes, Fault};
-use basics::Bytes;
+use basics::{Bytes, Copies, NoMemory};
 use std::alloc::Global;
 
 /// What a poll of an output gave.
@@ -24,6 +24,20 @@ pub enum Polled {
     End,
     Failed,
     NoMemory,
+}
+
+impl Copies for Polled {
+    fn copy(&self, alloc: Global) -> Result<Self, NoMemory> {
+        match self {
+            Polled::Line(line) => Ok(Polled::Line(line.copy(alloc)?)),
+            Polled::Torn(line) => Ok(Polled::Torn(line.copy(alloc)?)),
+            Polled::TooLong => Ok(Polled::TooLong),
+            Polled::NotYet => Ok(Polled::NotYet),
+            Polled::End => Ok(Polled::End),
+            Polled::Failed => Ok(Polled::Failed),
+            Polled::NoMemory => Ok(Polled::NoMemory),
+        }
+    }
 }
 
 /// What became of a line that was offered.

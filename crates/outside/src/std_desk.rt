@@ -1,9 +1,8 @@
 // The desk of a process: files, and standard output through one buffer.
-ghost use Rattle.std.specs.Prelude.{◌≡◌, ◌≤◌, ◌<◌, ◌^◌, None, IsErrOf, length};
-ghost use Rattle.basics.specs.Told.{RoseIf};
+ghost use Rattle.std.specs.Prelude.{◌≡◌, None, IfOk};
 
 use crate::{Desk, Fault};
-use basics::Bytes;
+use basics::{Bytes, NoMemory};
 use std::alloc::Global;
 use std::fs::File;
 use std::io::{self, BufWriter, ErrorKind, Printer, Read, Write};
@@ -14,7 +13,7 @@ const PIECE: usize = 65_536;
 const LONGEST_TEXT: usize = 4_294_967_296;
 
 /// The desk of a process. A text is the file of that name, at most 4,294,967,296 bytes of it; lines go to standard
-/// output through one buffer, which `finish` writes out. It tells neither texts nor lines.
+/// output through one buffer of 64 KiB, which `flush` writes out. It tells neither texts nor lines.
 #[derive(Drop)]
 pub struct StdDesk<'a, R: Files + Print + Drop> {
     runtime: &'a R,
@@ -25,25 +24,18 @@ pub struct StdDesk<'a, R: Files + Print + Drop> {
 
 impl<'a, R: Files + Print + Drop> StdDesk<'a, R> {
     /// A desk that has counted nothing yet.
-    pub fn new(alloc: Global, runtime: &'a R) -> io::Result<Self> {
+    pub fn new(alloc: Global, runtime: &'a R) -> Result<Self, NoMemory>
+        ensures { IfOk result (λ desk. (desk.read_faults ≡ 0) × (desk.say_faults ≡ 0)) }
+    {
+        let Ok(output) = BufWriter::with_capacity(alloc, PIECE, io::writer(runtime)) else {
+            return Err(NoMemory);
+        };
         Ok(StdDesk {
             runtime,
-            output: BufWriter::with_capacity(alloc, PIECE, io::writer(runtime))?,
+            output,
             read_faults: 0,
             say_faults: 0,
         })
-    }
-
-    /// Writes out what the buffer still holds. What could not be written is a fault of saying.
-    pub fn finish(&mut self) -> Result<(), Fault>
-        ensures faults { RoseIf (IsErrOf result Fault.Failed) self.old.say_faults self.new.say_faults }
-        ensures no_memory { ¬ IsErrOf result Fault.NoMemory }
-    {
-        if self.output.flush().is_err() {
-            self.say_faults = self.say_faults.saturating_add(1);
-            return Err(Fault::Failed);
-        }
-        Ok(())
     }
 }
 
@@ -69,13 +61,7 @@ fn read_file<R: Files>(runtime: &R, alloc: Global, name: &str) -> Result<Bytes, 
 }
 
 impl<R: Files + Print + Drop> Desk for StdDesk<'_, R> {
-    ghost texts = { λ _. None };
-
-    ghost said = { λ _. None };
-
-    ghost read_faults = { λ desk. desk.read_faults };
-
-    ghost say_faults = { λ desk. desk.say_faults };
+    ghost seen = { λ desk. record { texts = None; said = None; read_faults = desk.read_faults; say_faults = desk.say_faults } };
 
     fn read_text(&mut self, alloc: Global, name: &str) -> Result<Bytes, Fault> {
         let text = read_file(self.runtime, alloc, name);
@@ -87,6 +73,14 @@ impl<R: Files + Print + Drop> Desk for StdDesk<'_, R> {
 
     fn say(&mut self, line: &[u8]) -> Result<(), Fault> {
         if self.output.write_all(line).is_err() || self.output.write_all(b"\n").is_err() {
+            self.say_faults = self.say_faults.saturating_add(1);
+            return Err(Fault::Failed);
+        }
+        Ok(())
+    }
+
+    fn flush(&mut self) -> Result<(), Fault> {
+        if self.output.flush().is_err() {
             self.say_faults = self.say_faults.saturating_add(1);
             return Err(Fault::Failed);
         }

@@ -51,7 +51,9 @@ fn find<'a>(texts: &'a [NamedText], name: &str) -> Option<&'a Bytes>
 }
 
 impl MemDesk {
-    ghost use Rattle.outside_mem.specs.MemDesk.{begun, DeskState, call_after};
+    ghost use Rattle.std.specs.Prelude.{⊤};
+    ghost use Rattle.basics.specs.Told.{RoseIf};
+    ghost use Rattle.outside_mem.specs.MemDesk.{begun, DeskState, one_more};
 
     /// A desk with these texts, which has said nothing.
     pub fn new(alloc: Global, texts: NamedTextList, fails: FailList) -> Self
@@ -77,33 +79,37 @@ impl MemDesk {
 
     // Counts a call, and tells whether it is to fail.
     fn is_failing(&mut self) -> bool
-        ensures fails { IsTrue result ↔ Contains self.old.fails (call_after self.old.calls) }
-        ensures counted { self.new ≡ record (self.old) { calls = call_after self.old.calls } }
+        ensures fails { IsTrue result ↔ Contains self.old.fails (one_more self.old.calls) }
+        ensures counted { self.new ≡ record (self.old) { calls = one_more self.old.calls } }
     {
         self.calls = self.calls.saturating_add(1);
         self.fails.as_slice().contains(&self.calls)
+    }
+
+    // Counts a line that could not be said.
+    fn count_say_fault(&mut self)
+        ensures counted { self.new ≡ record (self.old) { say_faults = one_more self.old.say_faults } }
+        ensures rose { RoseIf ⊤ self.old.say_faults self.new.say_faults }
+    {
+        self.say_faults = self.say_faults.saturating_add(1);
     }
 }
 
 impl Desk for MemDesk {
     ghost use Rattle.std.specs.Prelude.{Contains, IfOk, OnOk, OnErr, IsErrOf, ◌++◌, ◌∷◌, []};
     ghost use Rattle.basics.specs.Told.{RoseIf};
-    ghost use Rattle.outside_mem.specs.MemDesk.{text_named, call_after, ReadsText, FailsToRead};
+    ghost use Rattle.outside.specs.Desk.{SaidLines, SaidFront};
+    ghost use Rattle.outside_mem.specs.MemDesk.{seen_of, one_more, fault_after, ReadsText, FailsToRead};
 
-    ghost texts = { λ desk. Some (λ name. text_named desk.texts name) };
-
-    ghost said = { λ desk. Some desk.said };
-
-    ghost read_faults = { λ desk. desk.read_faults };
-
-    ghost say_faults = { λ desk. desk.say_faults };
+    ghost seen = { seen_of };
 
     // `Failed` comes exactly where the call is to fail, or no text has the name.
     fn read_text(&mut self, alloc: Global, name: &str) -> Result<Bytes, Fault>
         ensures read { IfOk result (ReadsText self.old name.now) }
         ensures failed { IsErrOf result Fault.Failed → FailsToRead self.old name.now }
         ensures faults { RoseIf (IsErrOf result Fault.Failed) self.old.read_faults self.new.read_faults }
-        ensures others { self.new ≡ record (self.old) { calls = call_after self.old.calls; read_faults = self.new.read_faults } }
+        ensures counted { self.new.read_faults ≡ fault_after result self.old.read_faults }
+        ensures others { self.new ≡ record (self.old) { calls = one_more self.old.calls; read_faults = self.new.read_faults } }
     {
         let is_failing = self.is_failing();
         match find(self.texts.as_slice(), name) {
@@ -117,19 +123,36 @@ impl Desk for MemDesk {
 
     // `Failed` comes exactly where the call is to fail, and then nothing was said.
     fn say(&mut self, line: &[u8]) -> Result<(), Fault>
-        ensures ok { OnOk result (self.new.said ≡ self.old.said ++ line.now ∷ []) }
-        ensures said { OnOk result (¬ Contains self.old.fails (call_after self.old.calls)) }
+        ensures ok { OnOk result (SaidLines (line.now ∷ []) (seen_of self.old) (seen_of self.new)) }
+        ensures front { SaidFront (IsErrOf result Fault.Failed) (line.now ∷ []) (seen_of self.old) (seen_of self.new) }
+        ensures said { OnOk result (¬ Contains self.old.fails (one_more self.old.calls)) }
         ensures unsaid { OnErr result (self.new.said ≡ self.old.said) }
-        ensures failed { IsErrOf result Fault.Failed → Contains self.old.fails (call_after self.old.calls) }
-        ensures faults { RoseIf (IsErrOf result Fault.Failed) self.old.say_faults self.new.say_faults }
-        ensures others { self.new ≡ record (self.old) { calls = call_after self.old.calls; said = self.new.said; say_faults = self.new.say_faults } }
+        ensures failed { IsErrOf result Fault.Failed → Contains self.old.fails (one_more self.old.calls) }
+        ensures counted { self.new.say_faults ≡ fault_after result self.old.say_faults }
+        ensures others { self.new ≡ record (self.old) { calls = one_more self.old.calls; said = self.new.said; say_faults = self.new.say_faults } }
     {
         if self.is_failing() {
-            self.say_faults = self.say_faults.saturating_add(1);
+            self.count_say_fault();
             return Err(Fault::Failed);
         }
         let copy = Bytes::copy_of(self.alloc, line)?;
         self.said.push(copy)?;
+        Ok(())
+    }
+
+    // `Failed` comes exactly where the call is to fail. There is nothing to write out.
+    fn flush(&mut self) -> Result<(), Fault>
+        ensures no_memory { ¬ IsErrOf result Fault.NoMemory }
+        ensures flushed { OnOk result (¬ Contains self.old.fails (one_more self.old.calls)) }
+        ensures failed { IsErrOf result Fault.Failed → Contains self.old.fails (one_more self.old.calls) }
+        ensures faults { RoseIf (IsErrOf result Fault.Failed) self.old.say_faults self.new.say_faults }
+        ensures counted { self.new.say_faults ≡ fault_after result self.old.say_faults }
+        ensures others { self.new ≡ record (self.old) { calls = one_more self.old.calls; say_faults = self.new.say_faults } }
+    {
+        if self.is_failing() {
+            self.count_say_fault();
+            return Err(Fault::Failed);
+        }
         Ok(())
     }
 }

@@ -10,8 +10,8 @@ ghost use Rattle.piecewise_lines.specs.Turns.{GivesAllLines};
 ghost use Rattle.piecewise_lines.specs.Found.{IsFound};
 ghost use Rattle.piecewise_lines.specs.declared.NextLine.TheVariants as answer;
 
-use memchr::memchr;
 use basics::{Bytes, NoMemory};
+use memchr::memchr;
 use std::alloc::Global;
 use std::marker::Model;
 use std::mem;

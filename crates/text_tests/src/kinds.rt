@@ -1,7 +1,7 @@
 // Messages of the kinds that carry no record and no state, and states of all kinds.
 use airbyte_message::{Message, StateKind, StateMsg, TraceMsg, read_message, same_state};
-use message_writer::write_message;
 use basics::NoMemory;
+use message_writer::write_message;
 use std::alloc::{AllocError, Global};
 use std::test::Fail;
 

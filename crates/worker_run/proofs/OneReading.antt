@@ -1,7 +1,7 @@
 -- A text is read to one end, and says one output: two readings of it agree.
 use Rattle.std.proofs.Common.{◌≡◌, ◌⊎◌, inl, inr, ℕ, ◌+◌, ◌≤◌, List, [], ◌∷◌, ◌++◌, map, length, Option, None, Some, refl, sym, ◌∙◌, ap, subst, arith, append_assoc}
-use Rattle.outside.specs.declared.status.Status.{Status}
-use Rattle.outside.specs.declared.status.Status.TheVariants as status
+use Rattle.worker_run.specs.declared.end.End.{End}
+use Rattle.worker_run.specs.declared.end.End.TheVariants as how
 use Rattle.outside.specs.Desk.{Texts}
 use Rattle.json_fields.specs.Answer.{IsAnswer}
 use Rattle.text_lines.specs.Lines.{lines_of}
@@ -13,7 +13,7 @@ use Rattle.worker_run.specs.Words.{TextNames}
 use Rattle.worker_run.specs.Rounds.{Heard, Round, record_round, state_round, other_round, round_line, round_found, heard_of, heard_in, Counted, none_counted, counted_after, counted_through, Fits, AreRounds, IsPassedOver, IsTaken, IsUnbuilt, longest_line}
 use Rattle.worker_run.specs.Output.{said_lines, end_lines, row_lines, attempt_lines}
 use Rattle.worker_run.proofs.ReadingLemmas.{said_append}
-use Rattle.worker_run.specs.Reading.{EndsBehind, IsAttempt, IsFront, ComesTo}
+use Rattle.worker_run.specs.Reading.{EndsBehind, IsAttempt, IsFront, HasNoTextNamed, LacksMessages, LacksText, RefusesCatalog, RunsAttempt, ComesTo}
 
 -- a line has one answer
 answer_only : (line : List ℕ) (a b : Option Message) → IsAnswer (IsMessage line) a → IsAnswer (IsMessage line) b → a ≡ b
@@ -101,13 +101,13 @@ same_counted stream counted a b fits fits' e =
 abbrev pub IsStop : List ℕ → Counted → List (List ℕ) → Type 0
 IsStop stream counted rest = (rest ≡ []) ⊎ ((bad : List ℕ) × (others : List (List ℕ)) × (rest ≡ bad ∷ others) × IsUnbuilt stream counted.since bad)
 
-stop_of : (stream : List ℕ) (rounds : List Round) (rest : List (List ℕ)) (end : Status) → EndsBehind stream rounds rest end → IsStop stream (counted_through none_counted rounds) rest
-stop_of stream rounds rest status.Ok ends = inl ends
-stop_of stream rounds rest status.Usage ends = absurd ends
-stop_of stream rounds rest status.FileFault ends = absurd ends
-stop_of stream rounds rest status.SayFault ends = absurd ends
-stop_of stream rounds rest (status.Unbuilt line) ends = inr (ends.0, ends.1, ends.2, ends.3)
-stop_of stream rounds rest status.NoMemory ends = absurd ends
+stop_of : (stream : List ℕ) (rounds : List Round) (rest : List (List ℕ)) (end : End) → EndsBehind stream rounds rest end → IsStop stream (counted_through none_counted rounds) rest
+stop_of stream rounds rest how.Ok ends = inl ends
+stop_of stream rounds rest how.Usage ends = absurd ends
+stop_of stream rounds rest how.FileFault ends = absurd ends
+stop_of stream rounds rest how.SayFault ends = absurd ends
+stop_of stream rounds rest (how.Unbuilt line) ends = inr (ends.0, ends.1, ends.2, ends.3)
+stop_of stream rounds rest how.NoMemory ends = absurd ends
 
 -- where no more is taken, no line fits
 stop_takes_nothing : (stream : List ℕ) (counted : Counted) (rest others : List (List ℕ)) (round : Round) → IsStop stream counted rest → Fits stream counted round → rest ≡ round_line round ∷ others → ⊥
@@ -165,7 +165,7 @@ agrees stream counted (x ∷ a) (y ∷ b) rest rest' fa fb e stop stop' =
     }
 
 -- two attempts over one text end alike and say the same
-pub record SameEnd (end end' : Status) (lines lines' : List (List ℕ)) : Type 0 where
+pub record SameEnd (end end' : End) (lines lines' : List (List ℕ)) : Type 0 where
   pub ends : end ≡ end'
   pub says : lines ≡ lines'
 
@@ -173,36 +173,36 @@ length_of_heard : (a : List Round) → length (heard_in a) ≡ length a
 length_of_heard [] = refl
 length_of_heard (x ∷ a) = let more = length_of_heard a in omega (arith, more)
 
-same_end : (stream : List ℕ) (a b : List Round) (rest rest' : List (List ℕ)) (end end' : Status) → EndsBehind stream a rest end → EndsBehind stream b rest' end' → Agrees a b rest rest' → end ≡ end'
-same_end stream a b rest rest' status.Ok status.Ok ends ends' agree = refl
-same_end stream a b rest rest' status.Ok (status.Unbuilt line) ends ends' agree = absurd (nil_cons rest rest' ends'.1 ends'.0 ends agree.left ends'.2)
+same_end : (stream : List ℕ) (a b : List Round) (rest rest' : List (List ℕ)) (end end' : End) → EndsBehind stream a rest end → EndsBehind stream b rest' end' → Agrees a b rest rest' → end ≡ end'
+same_end stream a b rest rest' how.Ok how.Ok ends ends' agree = refl
+same_end stream a b rest rest' how.Ok (how.Unbuilt line) ends ends' agree = absurd (nil_cons rest rest' ends'.1 ends'.0 ends agree.left ends'.2)
   where
     nil_cons : (xs xs' ys : List (List ℕ)) (x : List ℕ) → xs ≡ [] → xs ≡ xs' → xs' ≡ x ∷ ys → ⊥
     nil_cons xs xs' ys x p q r = cc
-same_end stream a b rest rest' (status.Unbuilt line) status.Ok ends ends' agree = absurd (nil_cons rest rest' ends.1 ends.0 ends' agree.left ends.2)
+same_end stream a b rest rest' (how.Unbuilt line) how.Ok ends ends' agree = absurd (nil_cons rest rest' ends.1 ends.0 ends' agree.left ends.2)
   where
     nil_cons : (xs xs' ys : List (List ℕ)) (x : List ℕ) → xs' ≡ [] → xs ≡ xs' → xs ≡ x ∷ ys → ⊥
     nil_cons xs xs' ys x p q r = cc
-same_end stream a b rest rest' (status.Unbuilt line) (status.Unbuilt line') ends ends' agree = ap (λ (n : ℕ). status.Unbuilt n) numbers
+same_end stream a b rest rest' (how.Unbuilt line) (how.Unbuilt line') ends ends' agree = ap (λ (n : ℕ). how.Unbuilt n) numbers
   where
     lengths : length a ≡ length b
     lengths = sym (length_of_heard a) ∙ (ap length agree.heard ∙ length_of_heard b)
 
     numbers : line ≡ line'
     numbers = ends.4 ∙ (ap (λ (n : ℕ). n + 1) lengths ∙ sym ends'.4)
-same_end stream a b rest rest' status.Usage end' ends ends' agree = absurd ends
-same_end stream a b rest rest' status.FileFault end' ends ends' agree = absurd ends
-same_end stream a b rest rest' status.SayFault end' ends ends' agree = absurd ends
-same_end stream a b rest rest' status.NoMemory end' ends ends' agree = absurd ends
-same_end stream a b rest rest' end status.Usage ends ends' agree = absurd ends'
-same_end stream a b rest rest' end status.FileFault ends ends' agree = absurd ends'
-same_end stream a b rest rest' end status.SayFault ends ends' agree = absurd ends'
-same_end stream a b rest rest' end status.NoMemory ends ends' agree = absurd ends'
+same_end stream a b rest rest' how.Usage end' ends ends' agree = absurd ends
+same_end stream a b rest rest' how.FileFault end' ends ends' agree = absurd ends
+same_end stream a b rest rest' how.SayFault end' ends ends' agree = absurd ends
+same_end stream a b rest rest' how.NoMemory end' ends ends' agree = absurd ends
+same_end stream a b rest rest' end how.Usage ends ends' agree = absurd ends'
+same_end stream a b rest rest' end how.FileFault ends ends' agree = absurd ends'
+same_end stream a b rest rest' end how.SayFault ends ends' agree = absurd ends'
+same_end stream a b rest rest' end how.NoMemory ends ends' agree = absurd ends'
 
-pub one_attempt : (text stream : List ℕ) (end end' : Status) (lines lines' : List (List ℕ)) → IsAttempt text stream end lines → IsAttempt text stream end' lines' → SameEnd end end' lines lines'
+pub one_attempt : (text stream : List ℕ) (end end' : End) (lines lines' : List (List ℕ)) → IsAttempt text stream end lines → IsAttempt text stream end' lines' → SameEnd end end' lines lines'
 one_attempt text stream end end' lines lines' is is' = record {
   ends = ends;
-  says = is.says ∙ (ap (λ (hs : List Heard). attempt_lines stream hs end) agree.heard ∙ (ap (λ (e : Status). attempt_lines stream (heard_in is'.reads.rounds) e) ends ∙ sym is'.says));
+  says = is.says ∙ (ap (λ (hs : List Heard). attempt_lines stream hs end) agree.heard ∙ (ap (λ (e : End). attempt_lines stream (heard_in is'.reads.rounds) e) ends ∙ sym is'.says));
 }
   where
     agree : Agrees is.reads.rounds is'.reads.rounds is.reads.rest is'.reads.rest
@@ -213,7 +213,7 @@ one_attempt text stream end end' lines lines' is is' = record {
     ends = same_end stream is.reads.rounds is'.reads.rounds is.reads.rest is'.reads.rest end end' is.reads.ends is'.reads.ends agree
 
 -- what some lines say is a front of what an attempt says
-pub some_lines_front : (text stream : List ℕ) (a : List Round) (rest : List (List ℕ)) → AreRounds stream none_counted a → lines_of text ≡ map round_line a ++ rest → (end : Status) (lines : List (List ℕ)) → IsAttempt text stream end lines → IsFront (said_lines (heard_in a)) lines
+pub some_lines_front : (text stream : List ℕ) (a : List Round) (rest : List (List ℕ)) → AreRounds stream none_counted a → lines_of text ≡ map round_line a ++ rest → (end : End) (lines : List (List ℕ)) → IsAttempt text stream end lines → IsFront (said_lines (heard_in a)) lines
 some_lines_front text stream a rest fits are end lines is = record {
   rest = said_lines further.more ++ end_lines stream (row_lines (heard_in is.reads.rounds)) end;
   splits = is.says ∙ (ap (λ (ls : List (List ℕ)). ls ++ end_lines stream (row_lines (heard_in is.reads.rounds)) end) (ap said_lines further.is ∙ said_append (heard_in a) further.more) ∙ append_assoc (said_lines (heard_in a)) (said_lines further.more) (end_lines stream (row_lines (heard_in is.reads.rounds)) end));
@@ -227,11 +227,35 @@ some_lines_front text stream a rest fits are end lines is = record {
 same_text : (by_name : Texts) (name a b : List ℕ) → by_name name ≡ Some a → by_name name ≡ Some b → a ≡ b
 same_text by_name name a b e f = cc
 
-pub one_outcome : (by_name : Texts) (names : TextNames) (end end' : Status) (lines lines' : List (List ℕ)) → ComesTo (Some by_name) (Some names) end lines → ComesTo (Some by_name) (Some names) end' lines' → SameEnd end end' lines lines'
+-- a text that is there is not missing
+is_there : (by_name : Texts) (name text : List ℕ) → by_name name ≡ Some text → by_name name ≡ None → ⊥
+is_there by_name name text e f = cc
+
+-- where a text is missing, no catalog is refused and no attempt is made
+lacks_no_catalog : (by_name : Texts) (names : TextNames) (end end' : End) (lines lines' : List (List ℕ)) → LacksText (Some by_name) names end lines → RefusesCatalog (Some by_name) names end' lines' → ⊥
+lacks_no_catalog by_name names end end' lines lines' lacks refuses = by_missing lacks.missing
+  where
+    by_missing : HasNoTextNamed (Some by_name) names.catalog ⊎ LacksMessages (Some by_name) names → ⊥
+    by_missing (inl none) = is_there by_name names.catalog refuses.catalog refuses.catalog_is none
+    by_missing (inr other) = refuses.none other.stream (subst (λ (text : List ℕ). IsCatalog text other.stream) (same_text by_name names.catalog other.catalog refuses.catalog other.catalog_is refuses.catalog_is) other.stream_is.is)
+
+lacks_no_attempt : (by_name : Texts) (names : TextNames) (end end' : End) (lines lines' : List (List ℕ)) → LacksText (Some by_name) names end lines → RunsAttempt (Some by_name) names end' lines' → ⊥
+lacks_no_attempt by_name names end end' lines lines' lacks runs = by_missing lacks.missing
+  where
+    by_missing : HasNoTextNamed (Some by_name) names.catalog ⊎ LacksMessages (Some by_name) names → ⊥
+    by_missing (inl none) = is_there by_name names.catalog runs.catalog runs.catalog_is none
+    by_missing (inr other) = is_there by_name names.messages runs.messages runs.messages_is other.missing
+
+pub one_outcome : (by_name : Texts) (names : TextNames) (end end' : End) (lines lines' : List (List ℕ)) → ComesTo (Some by_name) (Some names) end lines → ComesTo (Some by_name) (Some names) end' lines' → SameEnd end end' lines lines'
 one_outcome by_name names end end' lines lines' (inl a) (inl b) = record { ends = a.ends ∙ sym b.ends; says = a.nothing ∙ sym b.nothing }
-one_outcome by_name names end end' lines lines' (inl a) (inr b) = absurd (a.none b.stream (subst (λ (text : List ℕ). IsCatalog text b.stream) (same_text by_name names.catalog b.catalog a.catalog b.catalog_is a.catalog_is) b.stream_is.is))
-one_outcome by_name names end end' lines lines' (inr a) (inl b) = absurd (b.none a.stream (subst (λ (text : List ℕ). IsCatalog text a.stream) (same_text by_name names.catalog a.catalog b.catalog a.catalog_is b.catalog_is) a.stream_is.is))
-one_outcome by_name names end end' lines lines' (inr a) (inr b) =
+one_outcome by_name names end end' lines lines' (inl a) (inr (inl b)) = absurd (lacks_no_catalog by_name names end end' lines lines' a b)
+one_outcome by_name names end end' lines lines' (inl a) (inr (inr b)) = absurd (lacks_no_attempt by_name names end end' lines lines' a b)
+one_outcome by_name names end end' lines lines' (inr (inl a)) (inl b) = absurd (lacks_no_catalog by_name names end' end lines' lines b a)
+one_outcome by_name names end end' lines lines' (inr (inr a)) (inl b) = absurd (lacks_no_attempt by_name names end' end lines' lines b a)
+one_outcome by_name names end end' lines lines' (inr (inl a)) (inr (inl b)) = record { ends = a.ends ∙ sym b.ends; says = a.nothing ∙ sym b.nothing }
+one_outcome by_name names end end' lines lines' (inr (inl a)) (inr (inr b)) = absurd (a.none b.stream (subst (λ (text : List ℕ). IsCatalog text b.stream) (same_text by_name names.catalog b.catalog a.catalog b.catalog_is a.catalog_is) b.stream_is.is))
+one_outcome by_name names end end' lines lines' (inr (inr a)) (inr (inl b)) = absurd (b.none a.stream (subst (λ (text : List ℕ). IsCatalog text a.stream) (same_text by_name names.catalog a.catalog b.catalog a.catalog_is b.catalog_is) a.stream_is.is))
+one_outcome by_name names end end' lines lines' (inr (inr a)) (inr (inr b)) =
     one_attempt a.messages a.stream end end' lines lines' a.attempt (subst (λ (text : List ℕ). IsAttempt text a.stream end' lines') messages (subst (λ (s : List ℕ). IsAttempt b.messages s end' lines') streams b.attempt))
   where
     messages : b.messages ≡ a.messages

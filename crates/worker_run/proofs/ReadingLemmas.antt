@@ -1,14 +1,14 @@
 -- Lines that are taken one after another.
-use Rattle.std.proofs.Common.{◌≡◌, ℕ, ◌+◌, List, [], ◌∷◌, ◌++◌, map, length, Option, None, Some, Result, Ok, Err, OnErr, inl, inr, refl, sym, ◌∙◌, ap, subst, append_assoc, add-zero, arith}
+use Rattle.std.proofs.Common.{◌≡◌, ℕ, ◌+◌, List, [], ◌∷◌, ◌++◌, map, length, Option, None, Some, Result, Ok, Err, OnErr, option_to_list, ◌⊎◌, inl, inr, refl, sym, ◌∙◌, ap, subst, append_assoc, add-zero, arith}
 use Rattle.std.proofs.lemmas.List.{append-nil, map-append, length-append}
 use Rattle.std.specs.List.{cons_option}
 use Rattle.std.proofs.lemmas.List.Elements.{filter_map-append}
-use Rattle.basics.specs.Told.{told_more}
-use Rattle.outside.specs.Desk.{SaidOrNot}
+use Rattle.basics.specs.Told.{told_more, GrewByFront}
+use Rattle.outside.proofs.Says.{told_more-twice, told_more-none, none_told, none_or_one}
 use Rattle.outside.specs.declared.event.Event.{Event}
 use Rattle.worker_run.specs.Rounds.{Heard, Round, record_round, state_round, other_round, round_line, round_found, heard_of, heard_in, Counted, counted_after, counted_through, Fits, AreRounds}
 use Rattle.worker_run.specs.World.{World, took, round_events, rounds_events}
-use Rattle.worker_run.specs.Output.{saved_line, heard_line, option_list, HeardOrNot, said_lines}
+use Rattle.worker_run.specs.Output.{saved_line, heard_line, said_lines}
 use Rattle.worker_run.specs.Steps.{TakesRecord, TakesState, TakesOther}
 use Rattle.worker_run.specs.Reading.{TakesLines, SaysLines, ReadsSome}
 
@@ -30,9 +30,9 @@ heard_in-more rounds round = map-append heard_of rounds (round ∷ [])
 
 -- what a line says
 abbrev pub said_of : Heard → List (List ℕ)
-said_of heard = option_list (heard_line heard.line heard.found)
+said_of heard = option_to_list (heard_line heard.line heard.found)
 
-one_option : (said : Option (List ℕ)) → cons_option said [] ≡ option_list said
+one_option : (said : Option (List ℕ)) → cons_option said [] ≡ option_to_list said
 one_option None = refl
 one_option (Some line) = refl
 
@@ -43,14 +43,6 @@ said_append a b = filter_map-append (λ h. heard_line h.line h.found) a b
 pub said_lines-more : (rounds : List Round) (round : Round) → said_lines (heard_in (rounds ++ round ∷ [])) ≡ said_lines (heard_in rounds) ++ said_of (heard_of round)
 said_lines-more rounds round =
     ap said_lines (heard_in-more rounds round) ∙ (said_append (heard_in rounds) (heard_of round ∷ []) ∙ ap (λ (ls : List (List ℕ)). said_lines (heard_in rounds) ++ ls) (one_option (heard_line (round_line round) (round_found round))))
-
-pub told_more-twice : {A : Type 0} (front more : List A) (before : Option (List A)) → told_more more (told_more front before) ≡ told_more (front ++ more) before
-told_more-twice front more None = refl
-told_more-twice front more (Some before) = ap (λ (xs : _). Some xs) (append_assoc before front more)
-
-pub told_more-none : {A : Type 0} (before : Option (List A)) → told_more [] before ≡ before
-told_more-none None = refl
-told_more-none (Some before) = ap (λ (xs : _). Some xs) (append-nil before)
 
 -- nothing was taken yet
 pub takes_none : (world : World) → TakesLines world world []
@@ -103,21 +95,27 @@ says_state old mid new object before now after says state said =
     (said ∙ ap (λ (o : List ℕ). told_more (saved_line o ∷ []) now) state.saved)
 
 -- a line more that was passed over, and what it says
-pub says_other : (old mid new : World) (other : Option (List ℕ)) (before now after : Option (List (List ℕ))) → SaysLines old mid before now → TakesOther mid other new → after ≡ told_more (option_list other) now → SaysLines old new before after
+pub says_other : (old mid new : World) (other : Option (List ℕ)) (before now after : Option (List (List ℕ))) → SaysLines old mid before now → TakesOther mid other new → after ≡ told_more (option_to_list other) now → SaysLines old new before after
 says_other old mid new other before now after says takes said =
     says_more old mid new before now after (other_round takes.line takes.found) takes.rest says takes.next takes.fits takes.after
-    (said ∙ ap (λ (o : Option (List ℕ)). told_more (option_list o) now) takes.is)
+    (said ∙ ap (λ (o : Option (List ℕ)). told_more (option_to_list o) now) takes.is)
 
 -- what such a line says was said or not
-pub says_some_other : (old mid new : World) (other : Option (List ℕ)) (before now after : Option (List (List ℕ))) → SaysLines old mid before now → TakesOther mid other new → HeardOrNot other now after → ReadsSome old before after
-says_some_other old mid new None before now after says takes same = record { through = mid; says = subst (λ (t : Option (List (List ℕ))). SaysLines old mid before t) (sym same) says }
-says_some_other old mid new (Some line) before now after says takes (inl same) = record { through = mid; says = subst (λ (t : Option (List (List ℕ))). SaysLines old mid before t) (sym same) says }
-says_some_other old mid new (Some line) before now after says takes (inr said) = record { through = new; says = says_other old mid new (Some line) before now after says takes said }
+pub says_some_other : (old mid new : World) (other : Option (List ℕ)) (before now after : Option (List (List ℕ))) → SaysLines old mid before now → TakesOther mid other new → GrewByFront (option_to_list other) now after → ReadsSome old before after
+says_some_other old mid new None before now after says takes grew = record { through = mid; says = subst (λ (t : Option (List (List ℕ))). SaysLines old mid before t) (sym (none_told now after grew)) says }
+says_some_other old mid new (Some line) before now after says takes grew = by_line (none_or_one line now after grew)
+  where
+    by_line : (after ≡ now) ⊎ (after ≡ told_more (line ∷ []) now) → ReadsSome old before after
+    by_line (inl same) = record { through = mid; says = subst (λ (t : Option (List (List ℕ))). SaysLines old mid before t) (sym same) says }
+    by_line (inr said) = record { through = new; says = says_other old mid new (Some line) before now after says takes said }
 
 -- the line of a saved state was said or not
-pub says_some : (old mid new : World) (object : List ℕ) (before now after : Option (List (List ℕ))) → SaysLines old mid before now → TakesState mid object new → SaidOrNot (saved_line object) now after → ReadsSome old before after
-says_some old mid new object before now after says state (inl same) = record { through = mid; says = subst (λ (t : Option (List (List ℕ))). SaysLines old mid before t) (sym same) says }
-says_some old mid new object before now after says state (inr said) = record { through = new; says = says_state old mid new object before now after says state said }
+pub says_some : (old mid new : World) (object : List ℕ) (before now after : Option (List (List ℕ))) → SaysLines old mid before now → TakesState mid object new → GrewByFront (saved_line object ∷ []) now after → ReadsSome old before after
+says_some old mid new object before now after says state grew = by_line (none_or_one (saved_line object) now after grew)
+  where
+    by_line : (after ≡ now) ⊎ (after ≡ told_more (saved_line object ∷ []) now) → ReadsSome old before after
+    by_line (inl same) = record { through = mid; says = subst (λ (t : Option (List (List ℕ))). SaysLines old mid before t) (sym same) says }
+    by_line (inr said) = record { through = new; says = says_state old mid new object before now after says state said }
 
 -- what holds whatever a result is, holds where it is an error
 pub on_err : {T E : Type 0} (r : Result T E) (P : Type 0) → P → OnErr r P

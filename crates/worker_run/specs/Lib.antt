@@ -5,6 +5,7 @@ pub mod Rounds
 pub mod Store
 pub mod World
 pub mod EventParts
+pub mod Ends
 pub mod Output
 pub mod Steps
 pub mod SafeSync

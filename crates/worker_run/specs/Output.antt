@@ -1,11 +1,12 @@
 -- What the worker says: a function of the lines of a file with the messages that they are, and of how the attempt ended.
-use Rattle.std.specs.Prelude.{◌≡◌, ℕ, List, [], ◌∷◌, ◌++◌, length, flat_map, map, Option, None, Some, nat_lt, if◌then◌else◌, codes}
+use Rattle.std.specs.Prelude.{ℕ, List, [], ◌∷◌, ◌++◌, length, flat_map, map, Option, None, Some, nat_lt, if◌then◌else◌, codes}
 use Rattle.std.specs.List.{filter_map}
 use Rattle.std.specs.Fmt.{decimal}
 use Rattle.outside.specs.Status.{status_text}
+use Rattle.worker_run.specs.declared.end.End.{End}
+use Rattle.worker_run.specs.declared.end.End.TheVariants as how
 use Rattle.outside.specs.declared.status.Status.{Status}
-use Rattle.outside.specs.declared.status.Status.TheVariants as status
-use Rattle.outside.specs.Desk.{SaidOrNot}
+use Rattle.worker_run.specs.Ends.{status_of}
 use Rattle.outside.specs.declared.event.Event.{Event}
 use Rattle.outside.specs.declared.event.RawRow.{RawRow}
 use Rattle.worker_run.specs.EventParts.{rows_of}
@@ -33,12 +34,12 @@ attempt_line s = codes "attempt 1: " ++ status_text s
 abbrev pub status_line : Status → List ℕ
 status_line s = codes "status " ++ status_text s
 
-abbrev pub table_line : List ℕ → ℕ → List ℕ
-table_line stream rows = codes "table " ++ (stream ++ (codes " rows " ++ decimal rows))
-
--- bytes below 32 are said as spaces
+-- Bytes below 32 are said as spaces, so that a name or a message of a file cannot begin a line.
 abbrev pub shown : List ℕ → List ℕ
 shown text = map (λ byte. if nat_lt byte 32 then 32 else byte) text
+
+abbrev pub table_line : List ℕ → ℕ → List ℕ
+table_line stream rows = codes "table " ++ (shown stream ++ (codes " rows " ++ decimal rows))
 
 -- a line of the source that is no message
 abbrev pub source_line : List ℕ → List ℕ
@@ -74,16 +75,6 @@ heard_line line (Some (message.Catalog catalog)) = None
 heard_line line (Some (message.Trace content)) = trace_line content
 heard_line line (Some (message.Control control)) = None
 
--- no line, or one
-abbrev pub option_list : Option (List ℕ) → List (List ℕ)
-option_list None = []
-option_list (Some line) = line ∷ []
-
--- the line was said, or nothing was
-abbrev pub HeardOrNot : Option (List ℕ) → Option (List (List ℕ)) → Option (List (List ℕ)) → Type 0
-HeardOrNot None before now = now ≡ before
-HeardOrNot (Some line) before now = SaidOrNot line before now
-
 -- the body of a record
 abbrev pub body_of : Option Message → Option (List ℕ)
 body_of None = None
@@ -109,20 +100,20 @@ abbrev pub table_lines : List ℕ → List (List ℕ) → List (List ℕ)
 table_lines stream rows = table_line stream (length rows) ∷ rows
 
 -- at Ok the table follows
-abbrev pub table_at : List ℕ → List (List ℕ) → Status → List (List ℕ)
-table_at stream rows status.Ok = table_lines stream rows
-table_at stream rows status.Usage = []
-table_at stream rows status.FileFault = []
-table_at stream rows status.SayFault = []
-table_at stream rows (status.Unbuilt line) = []
-table_at stream rows status.NoMemory = []
+abbrev pub table_at : List ℕ → List (List ℕ) → End → List (List ℕ)
+table_at stream rows how.Ok = table_lines stream rows
+table_at stream rows how.Usage = []
+table_at stream rows how.FileFault = []
+table_at stream rows how.SayFault = []
+table_at stream rows (how.Unbuilt line) = []
+table_at stream rows how.NoMemory = []
 
 -- what is said at the end of an attempt: how it ended, and the table
-abbrev pub end_lines : List ℕ → List (List ℕ) → Status → List (List ℕ)
-end_lines stream rows end = attempt_line end ∷ table_at stream rows end
+abbrev pub end_lines : List ℕ → List (List ℕ) → End → List (List ℕ)
+end_lines stream rows end = attempt_line (status_of end) ∷ table_at stream rows end
 
 -- what is said of an attempt that took these lines and ended so
-abbrev pub attempt_lines : List ℕ → List Heard → Status → List (List ℕ)
+abbrev pub attempt_lines : List ℕ → List Heard → End → List (List ℕ)
 attempt_lines stream heard end = said_lines heard ++ end_lines stream (row_lines heard) end
 
 -- the bodies of rows, as they are said

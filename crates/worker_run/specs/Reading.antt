@@ -1,11 +1,14 @@
 -- How the worker goes through the lines of a file, and what a run says.
 use Rattle.std.specs.Prelude.{◌≡◌, ◌⊎◌, ℕ, ◌+◌, List, [], ◌∷◌, ◌++◌, map, length, Option, None, Some, IfSome}
-use Rattle.basics.specs.Told.{told_more}
+use Rattle.basics.specs.Told.{told_more, GrewByFront}
 use Rattle.outside.specs.declared.status.Status.{Status}
 use Rattle.outside.specs.declared.status.Status.TheVariants as status
+use Rattle.worker_run.specs.Ends.{status_of}
+use Rattle.worker_run.specs.declared.end.End.{End}
+use Rattle.worker_run.specs.declared.end.End.TheVariants as how
 use Rattle.outside.specs.declared.fault.Fault.{Fault}
 use Rattle.outside.specs.declared.fault.Fault.TheVariants as fault
-use Rattle.outside.specs.Desk.{Texts, SaidOrNot}
+use Rattle.outside.specs.Desk.{Texts}
 use Rattle.json_fields.specs.Answer.{IsOnly}
 use Rattle.text_lines.specs.Lines.{lines_of}
 use Rattle.worker_run.specs.Words.{TextNames}
@@ -30,26 +33,26 @@ pub record SaysLines (old new : World) (before now : Option (List (List ℕ))) :
   pub said : now ≡ told_more (said_lines (heard_in rounds)) before
 
 -- what stands behind the lines that were taken: nothing, or a line with this number that is not taken
-abbrev pub EndsAs : Status → World → Type 0
-EndsAs status.Ok world = world.lines ≡ []
-EndsAs status.Usage world = ⊥
-EndsAs status.FileFault world = ⊥
-EndsAs status.SayFault world = ⊥
-EndsAs (status.Unbuilt line) world =
+abbrev pub EndsAs : End → World → Type 0
+EndsAs how.Ok world = world.lines ≡ []
+EndsAs how.Usage world = ⊥
+EndsAs how.FileFault world = ⊥
+EndsAs how.SayFault world = ⊥
+EndsAs (how.Unbuilt line) world =
     (bad : List ℕ) × (others : List (List ℕ)) × (world.lines ≡ bad ∷ others) × IsUnbuilt world.stream world.counted.since bad × (line ≡ world.number + 1)
-EndsAs status.NoMemory world = ⊥
+EndsAs how.NoMemory world = ⊥
 
 -- what the end leaves of that world: at Ok the attempt has ended
-abbrev pub LeavesAs : Status → World → World → Type 0
-LeavesAs status.Ok world new = new ≡ ended world
-LeavesAs status.Usage world new = ⊥
-LeavesAs status.FileFault world new = ⊥
-LeavesAs status.SayFault world new = ⊥
-LeavesAs (status.Unbuilt line) world new = new ≡ world
-LeavesAs status.NoMemory world new = ⊥
+abbrev pub LeavesAs : End → World → World → Type 0
+LeavesAs how.Ok world new = new ≡ ended world
+LeavesAs how.Usage world new = ⊥
+LeavesAs how.FileFault world new = ⊥
+LeavesAs how.SayFault world new = ⊥
+LeavesAs (how.Unbuilt line) world new = new ≡ world
+LeavesAs how.NoMemory world new = ⊥
 
 -- lines of a world were taken up to this end, and said
-pub record Reads (old new : World) (end : Status) (before now : Option (List (List ℕ))) : Type 0 where
+pub record Reads (old new : World) (end : End) (before now : Option (List (List ℕ))) : Type 0 where
   pub through : World
   pub says : SaysLines old through before now
   pub ends : EndsAs end through
@@ -61,17 +64,17 @@ pub record ReadsSome (old : World) (before now : Option (List (List ℕ))) : Typ
   pub says : SaysLines old through before now
 
 -- what stands behind the lines of a text that were taken
-abbrev pub EndsBehind : List ℕ → List Round → List (List ℕ) → Status → Type 0
-EndsBehind stream rounds rest status.Ok = rest ≡ []
-EndsBehind stream rounds rest status.Usage = ⊥
-EndsBehind stream rounds rest status.FileFault = ⊥
-EndsBehind stream rounds rest status.SayFault = ⊥
-EndsBehind stream rounds rest (status.Unbuilt line) =
+abbrev pub EndsBehind : List ℕ → List Round → List (List ℕ) → End → Type 0
+EndsBehind stream rounds rest how.Ok = rest ≡ []
+EndsBehind stream rounds rest how.Usage = ⊥
+EndsBehind stream rounds rest how.FileFault = ⊥
+EndsBehind stream rounds rest how.SayFault = ⊥
+EndsBehind stream rounds rest (how.Unbuilt line) =
     (bad : List ℕ) × (others : List (List ℕ)) × (rest ≡ bad ∷ others) × IsUnbuilt stream (counted_through none_counted rounds).since bad × (line ≡ length rounds + 1)
-EndsBehind stream rounds rest status.NoMemory = ⊥
+EndsBehind stream rounds rest how.NoMemory = ⊥
 
 -- the lines of the text are these, which are taken one after another, and then the end: no line, or one that is not taken
-pub record ReadsTo (text stream : List ℕ) (end : Status) : Type 0 where
+pub record ReadsTo (text stream : List ℕ) (end : End) : Type 0 where
   pub rounds : List Round
   pub rest : List (List ℕ)
   pub lines : lines_of text ≡ map round_line rounds ++ rest
@@ -79,12 +82,12 @@ pub record ReadsTo (text stream : List ℕ) (end : Status) : Type 0 where
   pub ends : EndsBehind stream rounds rest end
 
 -- an attempt over this text ends so and says these lines
-pub record IsAttempt (text stream : List ℕ) (end : Status) (lines : List (List ℕ)) : Type 0 where
+pub record IsAttempt (text stream : List ℕ) (end : End) (lines : List (List ℕ)) : Type 0 where
   pub reads : ReadsTo text stream end
   pub says : lines ≡ attempt_lines stream (heard_in reads.rounds) end
 
 -- an attempt over this text has ended so, and its lines were said
-pub record Attempted (text stream : List ℕ) (end : Status) (before now : Option (List (List ℕ))) : Type 0 where
+pub record Attempted (text stream : List ℕ) (end : End) (before now : Option (List (List ℕ))) : Type 0 where
   pub lines : List (List ℕ)
   pub is : IsAttempt text stream end lines
   pub said : now ≡ told_more lines before
@@ -98,22 +101,40 @@ pub record IsFront (front whole : List (List ℕ)) : Type 0 where
 pub record StopsShort (text stream : List ℕ) (before now : Option (List (List ℕ))) : Type 0 where
   pub front : List (List ℕ)
   pub said : now ≡ told_more front before
-  pub is : (end : Status) (lines : List (List ℕ)) → IsAttempt text stream end lines → IsFront front lines
+  pub is : (end : End) (lines : List (List ℕ)) → IsAttempt text stream end lines → IsFront front lines
 
 -- the text has this name, where the texts are told
 abbrev pub HasTextNamed : Option Texts → List ℕ → List ℕ → Type 0
 HasTextNamed texts name text = IfSome texts (λ by_name. by_name name ≡ Some text)
 
+-- no text has this name, where the texts are told
+abbrev pub HasNoTextNamed : Option Texts → List ℕ → Type 0
+HasNoTextNamed texts name = IfSome texts (λ by_name. by_name name ≡ None)
+
+-- the catalog has one stream, and the text of the messages is missing
+pub record LacksMessages (texts : Option Texts) (names : TextNames) : Type 0 where
+  pub catalog : List ℕ
+  pub catalog_is : HasTextNamed texts names.catalog catalog
+  pub stream : List ℕ
+  pub stream_is : IsOnly (IsCatalog catalog) stream
+  pub missing : HasNoTextNamed texts names.messages
+
+-- a text that is asked for is missing: nothing is said of an attempt
+pub record LacksText (texts : Option Texts) (names : TextNames) (end : End) (lines : List (List ℕ)) : Type 0 where
+  pub missing : HasNoTextNamed texts names.catalog ⊎ LacksMessages texts names
+  pub ends : end ≡ how.FileFault
+  pub nothing : lines ≡ []
+
 -- the catalog has another form: no attempt is made, and nothing said of one
-pub record RefusesCatalog (texts : Option Texts) (names : TextNames) (end : Status) (lines : List (List ℕ)) : Type 0 where
+pub record RefusesCatalog (texts : Option Texts) (names : TextNames) (end : End) (lines : List (List ℕ)) : Type 0 where
   pub catalog : List ℕ
   pub catalog_is : HasTextNamed texts names.catalog catalog
   pub none : (stream : List ℕ) → ¬ IsCatalog catalog stream
-  pub ends : end ≡ status.Unbuilt 0
+  pub ends : end ≡ how.Unbuilt 0
   pub nothing : lines ≡ []
 
 -- the catalog has one stream, and an attempt over the messages ends so and says these lines
-pub record RunsAttempt (texts : Option Texts) (names : TextNames) (end : Status) (lines : List (List ℕ)) : Type 0 where
+pub record RunsAttempt (texts : Option Texts) (names : TextNames) (end : End) (lines : List (List ℕ)) : Type 0 where
   pub catalog : List ℕ
   pub catalog_is : HasTextNamed texts names.catalog catalog
   pub stream : List ℕ
@@ -122,31 +143,32 @@ pub record RunsAttempt (texts : Option Texts) (names : TextNames) (end : Status)
   pub messages_is : HasTextNamed texts names.messages messages
   pub attempt : IsAttempt messages stream end lines
 
--- What these words and texts come to: how a run ends that meets no fault, and what it says before its last line.
-abbrev pub ComesTo : Option Texts → Option TextNames → Status → List (List ℕ) → Type 0
-ComesTo texts None end lines = (end ≡ status.Usage) × (lines ≡ usage_line ∷ [])
-ComesTo texts (Some names) end lines = RefusesCatalog texts names end lines ⊎ RunsAttempt texts names end lines
+-- What these words and texts come to: how a run ends where no call of the desk fails on a text that is there, and what it
+-- says before its last line.
+abbrev pub ComesTo : Option Texts → Option TextNames → End → List (List ℕ) → Type 0
+ComesTo texts None end lines = (end ≡ how.Usage) × (lines ≡ usage_line ∷ [])
+ComesTo texts (Some names) end lines = LacksText texts names end lines ⊎ (RefusesCatalog texts names end lines ⊎ RunsAttempt texts names end lines)
 
 -- so, with the last line
-pub record WouldSay (texts : Option Texts) (asked : Option TextNames) (end : Status) (lines : List (List ℕ)) : Type 0 where
+pub record WouldSay (texts : Option Texts) (asked : Option TextNames) (end : End) (lines : List (List ℕ)) : Type 0 where
   pub body : List (List ℕ)
   pub comes : ComesTo texts asked end body
-  pub is : lines ≡ body ++ status_line end ∷ []
+  pub is : lines ≡ body ++ status_line (status_of end) ∷ []
 
 -- what was said is a front of whatever these words and texts come to, where the texts that are asked for are told
 abbrev pub IsFrontOfBody : Option Texts → Option TextNames → List (List ℕ) → Type 0
 IsFrontOfBody texts None front = IsFront front (usage_line ∷ [])
 IsFrontOfBody None (Some names) front = Unit {0}
-IsFrontOfBody (Some by_name) (Some names) front = (end : Status) (lines : List (List ℕ)) → ComesTo (Some by_name) (Some names) end lines → IsFront front lines
+IsFrontOfBody (Some by_name) (Some names) front = (end : End) (lines : List (List ℕ)) → ComesTo (Some by_name) (Some names) end lines → IsFront front lines
 
 -- the same of all that would have been said
 abbrev pub IsFrontOfAll : Option Texts → Option TextNames → List (List ℕ) → Type 0
 IsFrontOfAll texts None front = IsFront front (usage_line ∷ status_line status.Usage ∷ [])
 IsFrontOfAll None (Some names) front = Unit {0}
-IsFrontOfAll (Some by_name) (Some names) front = (end : Status) (lines : List (List ℕ)) → WouldSay (Some by_name) (Some names) end lines → IsFront front lines
+IsFrontOfAll (Some by_name) (Some names) front = (end : End) (lines : List (List ℕ)) → WouldSay (Some by_name) (Some names) end lines → IsFront front lines
 
 -- before the last line: what the words and texts come to was said
-pub record SaidBody (texts : Option Texts) (asked : Option TextNames) (end : Status) (before now : Option (List (List ℕ))) : Type 0 where
+pub record SaidBody (texts : Option Texts) (asked : Option TextNames) (end : End) (before now : Option (List (List ℕ))) : Type 0 where
   pub lines : List (List ℕ)
   pub comes : ComesTo texts asked end lines
   pub said : now ≡ told_more lines before
@@ -157,96 +179,99 @@ pub record SaidPart (texts : Option Texts) (asked : Option TextNames) (before no
   pub is : IsFrontOfBody texts asked front
 
 -- what was said before the last line, at each end
-abbrev pub SaysBody : Option Texts → Option TextNames → Status → Option (List (List ℕ)) → Option (List (List ℕ)) → Type 0
-SaysBody texts asked status.Ok before now = SaidBody texts asked status.Ok before now
-SaysBody texts asked status.Usage before now = SaidBody texts asked status.Usage before now
-SaysBody texts asked status.FileFault before now = now ≡ before
-SaysBody texts asked status.SayFault before now = SaidPart texts asked before now
-SaysBody texts asked (status.Unbuilt line) before now = SaidBody texts asked (status.Unbuilt line) before now
-SaysBody texts asked status.NoMemory before now = SaidPart texts asked before now
+abbrev pub SaysBody : Option Texts → Option TextNames → End → Option (List (List ℕ)) → Option (List (List ℕ)) → Type 0
+SaysBody texts asked how.Ok before now = SaidBody texts asked how.Ok before now
+SaysBody texts asked how.Usage before now = SaidBody texts asked how.Usage before now
+SaysBody texts asked how.FileFault before now = now ≡ before
+SaysBody texts asked how.SayFault before now = SaidPart texts asked before now
+SaysBody texts asked (how.Unbuilt line) before now = SaidBody texts asked (how.Unbuilt line) before now
+SaysBody texts asked how.NoMemory before now = SaidPart texts asked before now
 
 -- all that these words and texts come to was said
-pub record SaidAll (texts : Option Texts) (asked : Option TextNames) (end : Status) (before now : Option (List (List ℕ))) : Type 0 where
+pub record SaidAll (texts : Option Texts) (asked : Option TextNames) (end : End) (before now : Option (List (List ℕ))) : Type 0 where
   pub lines : List (List ℕ)
   pub would : WouldSay texts asked end lines
   pub said : now ≡ told_more lines before
 
--- What was said is a front of it; or, where a text could not be read, of the line that says so.
-pub record SaidFront (texts : Option Texts) (asked : Option TextNames) (unread : Type 0) (before now : Option (List (List ℕ))) : Type 0 where
+-- What was said is a front of it; or, where reading a text failed, of the line that says so.
+pub record SaidSome (texts : Option Texts) (asked : Option TextNames) (unread : Type 0) (before now : Option (List (List ℕ))) : Type 0 where
   pub front : List (List ℕ)
   pub said : now ≡ told_more front before
   pub is : IsFrontOfAll texts asked front ⊎ (unread × IsFront front (status_line status.FileFault ∷ []))
 
--- What a run said, at each end. `unread`: a text could not be read.
-abbrev pub Says : Option Texts → Option TextNames → Type 0 → Status → Option (List (List ℕ)) → Option (List (List ℕ)) → Type 0
-Says texts asked unread status.Ok before now = SaidAll texts asked status.Ok before now
-Says texts asked unread status.Usage before now = SaidAll texts asked status.Usage before now
-Says texts asked unread status.FileFault before now = now ≡ told_more (status_line status.FileFault ∷ []) before
-Says texts asked unread status.SayFault before now = SaidFront texts asked unread before now
-Says texts asked unread (status.Unbuilt line) before now = SaidAll texts asked (status.Unbuilt line) before now
-Says texts asked unread status.NoMemory before now = SaidFront texts asked unread before now
+-- What a run said, at each end. `unread`: reading a text failed.
+abbrev pub Says : Option Texts → Option TextNames → Type 0 → End → Option (List (List ℕ)) → Option (List (List ℕ)) → Type 0
+Says texts asked unread how.Ok before now = SaidAll texts asked how.Ok before now
+Says texts asked unread how.Usage before now = SaidAll texts asked how.Usage before now
+Says texts asked unread how.FileFault before now = now ≡ told_more (status_line status.FileFault ∷ []) before
+Says texts asked unread how.SayFault before now = SaidSome texts asked unread before now
+Says texts asked unread (how.Unbuilt line) before now = SaidAll texts asked (how.Unbuilt line) before now
+Says texts asked unread how.NoMemory before now = SaidSome texts asked unread before now
 
 -- what a fault of reading, or of saying, makes of a run
-abbrev pub IsReadFault : Fault → Status → Type 0
-IsReadFault fault.Failed end = end ≡ status.FileFault
-IsReadFault fault.NoMemory end = end ≡ status.NoMemory
+abbrev pub IsReadFault : Fault → End → Type 0
+IsReadFault fault.Failed end = end ≡ how.FileFault
+IsReadFault fault.NoMemory end = end ≡ how.NoMemory
 
-abbrev pub IsSayFault : Fault → Status → Type 0
-IsSayFault fault.Failed end = end ≡ status.SayFault
-IsSayFault fault.NoMemory end = end ≡ status.NoMemory
+abbrev pub IsSayFault : Fault → End → Type 0
+IsSayFault fault.Failed end = end ≡ how.SayFault
+IsSayFault fault.NoMemory end = end ≡ how.NoMemory
+
+-- The last line: nothing more is said behind a line that could not be said, nor without memory. Else the status was said,
+-- or the run ends with such a fault, and it was said or not.
+abbrev pub StatusSaid : End → End → Option (List (List ℕ)) → Option (List (List ℕ)) → Type 0
+StatusSaid end result before now =
+    ((result ≡ end) × (now ≡ told_more (status_line (status_of end) ∷ []) before))
+    ⊎ (((result ≡ how.SayFault) ⊎ (result ≡ how.NoMemory)) × GrewByFront (status_line (status_of end) ∷ []) before now)
+
+abbrev pub SaysLast : End → End → Option (List (List ℕ)) → Option (List (List ℕ)) → Type 0
+SaysLast how.Ok result before now = StatusSaid how.Ok result before now
+SaysLast how.Usage result before now = StatusSaid how.Usage result before now
+SaysLast how.FileFault result before now = StatusSaid how.FileFault result before now
+SaysLast how.SayFault result before now = (result ≡ how.SayFault) × (now ≡ before)
+SaysLast (how.Unbuilt line) result before now = StatusSaid (how.Unbuilt line) result before now
+SaysLast how.NoMemory result before now = (result ≡ how.NoMemory) × (now ≡ before)
+
+-- a fault of saying came behind this end
+abbrev pub EndsAtFault : End → End → Type 0
+EndsAtFault how.SayFault result = ⊥
+EndsAtFault end result = result ≡ how.SayFault
+
+-- what was said stands written, or the run ends with a fault of saying
+abbrev pub WritesOut : End → End → Type 0
+WritesOut end result = (result ≡ end) ⊎ (result ≡ how.SayFault)
+
+-- how a run without a command may end, before its status is said
+abbrev pub EndsWithoutCommand : End → Type 0
+EndsWithoutCommand end = (end ≡ how.Usage) ⊎ ((end ≡ how.SayFault) ⊎ (end ≡ how.NoMemory))
+
+-- a run ended so, with this status, and said its lines
+pub record EndsAndSays (texts : Option Texts) (asked : Option TextNames) (unread : Type 0) (result : Status) (before now : Option (List (List ℕ))) : Type 0 where
+  pub end : End
+  pub is : result ≡ status_of end
+  pub says : Says texts asked unread end before now
+
+-- a fault of saying, or want of memory
+abbrev pub StopsSaying : Status → Type 0
+StopsSaying result = (result ≡ status.SayFault) ⊎ (result ≡ status.NoMemory)
 
 -- how a run without a command may end
 abbrev pub IsUsageEnd : Status → Type 0
-IsUsageEnd status.Ok = ⊥
-IsUsageEnd status.Usage = Unit {0}
-IsUsageEnd status.FileFault = ⊥
-IsUsageEnd status.SayFault = Unit {0}
-IsUsageEnd (status.Unbuilt line) = ⊥
-IsUsageEnd status.NoMemory = Unit {0}
+IsUsageEnd result = (result ≡ status.Usage) ⊎ StopsSaying result
 
--- The last line: nothing more is said behind a line that could not be said, nor without memory. Else the status was
--- said, or the run ends with such a fault, and it was said or not.
-abbrev pub StatusSaid : Status → Status → Option (List (List ℕ)) → Option (List (List ℕ)) → Type 0
-StatusSaid end result before now =
-    ((result ≡ end) × (now ≡ told_more (status_line end ∷ []) before))
-    ⊎ (((result ≡ status.SayFault) ⊎ (result ≡ status.NoMemory)) × SaidOrNot (status_line end) before now)
-
-abbrev pub SaysLast : Status → Status → Option (List (List ℕ)) → Option (List (List ℕ)) → Type 0
-SaysLast status.Ok result before now = StatusSaid status.Ok result before now
-SaysLast status.Usage result before now = StatusSaid status.Usage result before now
-SaysLast status.FileFault result before now = StatusSaid status.FileFault result before now
-SaysLast status.SayFault result before now = (result ≡ status.SayFault) × (now ≡ before)
-SaysLast (status.Unbuilt line) result before now = StatusSaid (status.Unbuilt line) result before now
-SaysLast status.NoMemory result before now = (result ≡ status.NoMemory) × (now ≡ before)
-
--- the last line could not be said
-abbrev pub EndsAtFault : Status → Status → Type 0
-EndsAtFault status.SayFault result = ⊥
-EndsAtFault end result = result ≡ status.SayFault
-
--- a fault of the outside, or want of memory
-abbrev pub IsFault : Status → Type 0
-IsFault status.Ok = ⊥
-IsFault status.Usage = ⊥
-IsFault status.FileFault = Unit {0}
-IsFault status.SayFault = Unit {0}
-IsFault (status.Unbuilt line) = ⊥
-IsFault status.NoMemory = Unit {0}
-
--- the end is the only one that these words and texts come to, unless a fault came first
+-- the end is the only one that these words and texts come to, unless a fault of the outside came first, or want of memory
 abbrev pub IsOnlyEnd : Option Texts → Option TextNames → Status → Type 0
-IsOnlyEnd texts asked end = IfSome texts (λ by_name. (other : Status) (lines : List (List ℕ)) → WouldSay (Some by_name) asked other lines → IsFault end ⊎ (end ≡ other))
+IsOnlyEnd texts asked result =
+    IfSome texts (λ by_name. (other : End) (lines : List (List ℕ)) → WouldSay (Some by_name) asked other lines → (result ≡ status_of other) ⊎ ((result ≡ status.FileFault) ⊎ StopsSaying result))
 
 -- the last line said is the status, unless a line could not be said or memory was wanting
 abbrev pub EndsWithStatus : Status → Option (List (List ℕ)) → Option (List (List ℕ)) → Type 0
-EndsWithStatus status.SayFault before now = Unit {0}
-EndsWithStatus status.NoMemory before now = Unit {0}
-EndsWithStatus end before now = (body : List (List ℕ)) × (now ≡ told_more (body ++ status_line end ∷ []) before)
+EndsWithStatus result before now = ((body : List (List ℕ)) × (now ≡ told_more (body ++ status_line result ∷ []) before)) ⊎ StopsSaying result
 
 -- no line is refused, and no catalog
 abbrev pub NothingUnbuilt : Option Texts → Option TextNames → Type 0
-NothingUnbuilt texts asked = (line : ℕ) (lines : List (List ℕ)) → ¬ WouldSay texts asked (status.Unbuilt line) lines
+NothingUnbuilt texts asked = (line : ℕ) (lines : List (List ℕ)) → ¬ WouldSay texts asked (how.Unbuilt line) lines
 
 -- the run was Ok, or memory was wanting
 abbrev pub IsOkOrNoMemory : Status → Type 0
-IsOkOrNoMemory end = (end ≡ status.Ok) ⊎ (end ≡ status.NoMemory)
+IsOkOrNoMemory result = (result ≡ status.Ok) ⊎ (result ≡ status.NoMemory)

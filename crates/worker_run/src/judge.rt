@@ -2,7 +2,7 @@
 ghost use Rattle.std.specs.Prelude.{◌≡◌, ◌≤◌, IfOk, IsTrue, ◌↔◌};
 ghost use Rattle.worker_run.specs.Rounds.{IsOfStream, IsTakenState, longest_line};
 
-use crate::heard::{error_line, log_line, source_line};
+use crate::lines::{error_line, log_line, source_line};
 use airbyte_message::{
     FailureType, Message, RecordMsg, StateKind, StateMsg, TraceMsg, read_message,
 };

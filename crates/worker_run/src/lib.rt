@@ -2,8 +2,9 @@
 #![tactic(auto)]
 
 mod catalog;
-mod heard;
+mod end;
 mod judge;
+mod lines;
 mod output;
 mod plain_world;
 mod rounds;

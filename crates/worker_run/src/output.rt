@@ -1,24 +1,15 @@
-// The lines that the worker says.
-ghost use Rattle.std.specs.Prelude.{◌≡◌, ◌++◌, ◌∷◌, [], IfOk, OnOk, IsErrOf, codes};
+// The worker says its lines.
+ghost use Rattle.std.specs.Prelude.{◌≡◌, ◌++◌, ◌∷◌, [], option_to_list, OnOk, IsErrOf};
 ghost use Rattle.worker_run.specs.EventParts.{rows_of};
-ghost use Rattle.worker_run.specs.Output.{usage_line, saved_line, attempt_line, status_line, table_line, table_lines, table_at, end_lines, body_lines, committed_lines, option_list, HeardOrNot};
+ghost use Rattle.worker_run.specs.Output.{usage_line, saved_line, attempt_line, status_line, table_line as table_line_of, table_lines, table_at, end_lines, body_lines, committed_lines};
 ghost use Rattle.outside.specs.Status.{status_text};
-ghost use Rattle.basics.specs.Told.{told_more, RoseIf, GrewByFront};
-ghost use Rattle.outside.specs.Desk.{SaidOrNot};
+ghost use Rattle.outside.specs.Desk.{SaidLines, SaidFront};
 
 use crate::PlainWorld;
-use outside::{Bytes, Desk, Event, Fault, Name, NoMemory, RawRow, Status};
+use crate::end::End;
+use crate::lines::{joined, table_line};
+use outside::{Bytes, Desk, Event, Fault, Name, RawRow, Status};
 use std::alloc::Global;
-
-/// Two texts, one behind the other.
-fn joined(alloc: Global, front: &[u8], back: &[u8]) -> Result<Bytes, NoMemory>
-    ensures { IfOk result (λ text. text ≡ front.now ++ back.now) }
-{
-    let mut text = Vec::new(alloc);
-    text.extend_from_slice(front)?;
-    text.extend_from_slice(back)?;
-    Ok(Bytes::from_vec(text))
-}
 
 /// Says a front and what follows it as one line.
 pub fn say_joined<K: Desk>(
@@ -27,12 +18,8 @@ pub fn say_joined<K: Desk>(
     front: &[u8],
     back: &[u8],
 ) -> Result<(), Fault>
-    ensures ok { OnOk result (K.said desk.new ≡ told_more ((front.now ++ back.now) ∷ []) (K.said desk.old)) }
-    ensures whole_or_nothing { SaidOrNot (front.now ++ back.now) (K.said desk.old) (K.said desk.new) }
-    ensures no_memory { IsErrOf result Fault.NoMemory → K.said desk.new ≡ K.said desk.old }
-    ensures faults { RoseIf (IsErrOf result Fault.Failed) (K.say_faults desk.old) (K.say_faults desk.new) }
-    ensures read_faults { K.read_faults desk.new ≡ K.read_faults desk.old }
-    ensures texts { K.texts desk.new ≡ K.texts desk.old }
+    ensures ok { OnOk result (SaidLines ((front.now ++ back.now) ∷ []) (K.seen desk.old) (K.seen desk.new)) }
+    ensures front { SaidFront (IsErrOf result Fault.Failed) ((front.now ++ back.now) ∷ []) (K.seen desk.old) (K.seen desk.new) }
 {
     let line = joined(alloc, front, back)?;
     desk.say(line.as_slice())
@@ -40,47 +27,32 @@ pub fn say_joined<K: Desk>(
 
 // Says a text.
 fn say_text<K: Desk>(desk: &mut K, text: &str) -> Result<(), Fault>
-    ensures ok { OnOk result (K.said desk.new ≡ told_more (text.now ∷ []) (K.said desk.old)) }
-    ensures whole_or_nothing { SaidOrNot text.now (K.said desk.old) (K.said desk.new) }
-    ensures no_memory { IsErrOf result Fault.NoMemory → K.said desk.new ≡ K.said desk.old }
-    ensures faults { RoseIf (IsErrOf result Fault.Failed) (K.say_faults desk.old) (K.say_faults desk.new) }
-    ensures read_faults { K.read_faults desk.new ≡ K.read_faults desk.old }
-    ensures texts { K.texts desk.new ≡ K.texts desk.old }
+    ensures ok { OnOk result (SaidLines (text.now ∷ []) (K.seen desk.old) (K.seen desk.new)) }
+    ensures front { SaidFront (IsErrOf result Fault.Failed) (text.now ∷ []) (K.seen desk.old) (K.seen desk.new) }
 {
     desk.say(text.as_bytes())
 }
 
 /// Says the usage text.
 pub fn say_usage<K: Desk>(desk: &mut K) -> Result<(), Fault>
-    ensures ok { OnOk result (K.said desk.new ≡ told_more (usage_line ∷ []) (K.said desk.old)) }
-    ensures whole_or_nothing { SaidOrNot (usage_line) (K.said desk.old) (K.said desk.new) }
-    ensures no_memory { IsErrOf result Fault.NoMemory → K.said desk.new ≡ K.said desk.old }
-    ensures faults { RoseIf (IsErrOf result Fault.Failed) (K.say_faults desk.old) (K.say_faults desk.new) }
-    ensures read_faults { K.read_faults desk.new ≡ K.read_faults desk.old }
-    ensures texts { K.texts desk.new ≡ K.texts desk.old }
+    ensures ok { OnOk result (SaidLines (usage_line ∷ []) (K.seen desk.old) (K.seen desk.new)) }
+    ensures front { SaidFront (IsErrOf result Fault.Failed) (usage_line ∷ []) (K.seen desk.old) (K.seen desk.new) }
 {
     say_text(desk, "usage: airbyte_worker local --messages F --catalog F")
 }
 
 /// Says that a state was saved.
 pub fn say_saved<K: Desk>(alloc: Global, desk: &mut K, object: &[u8]) -> Result<(), Fault>
-    ensures ok { OnOk result (K.said desk.new ≡ told_more (saved_line object.now ∷ []) (K.said desk.old)) }
-    ensures whole_or_nothing { SaidOrNot (saved_line object.now) (K.said desk.old) (K.said desk.new) }
-    ensures no_memory { IsErrOf result Fault.NoMemory → K.said desk.new ≡ K.said desk.old }
-    ensures faults { RoseIf (IsErrOf result Fault.Failed) (K.say_faults desk.old) (K.say_faults desk.new) }
-    ensures read_faults { K.read_faults desk.new ≡ K.read_faults desk.old }
-    ensures texts { K.texts desk.new ≡ K.texts desk.old }
+    ensures ok { OnOk result (SaidLines (saved_line object.now ∷ []) (K.seen desk.old) (K.seen desk.new)) }
+    ensures front { SaidFront (IsErrOf result Fault.Failed) (saved_line object.now ∷ []) (K.seen desk.old) (K.seen desk.new) }
 {
     say_joined(alloc, desk, b"saved ", object)
 }
 
 /// Says what is to be said of a line that is passed over, if anything.
 pub fn say_heard<K: Desk>(desk: &mut K, said: Option<Bytes>) -> Result<(), Fault>
-    ensures ok { OnOk result (K.said desk.new ≡ told_more (option_list said) (K.said desk.old)) }
-    ensures whole_or_nothing { HeardOrNot said (K.said desk.old) (K.said desk.new) }
-    ensures faults { RoseIf (IsErrOf result Fault.Failed) (K.say_faults desk.old) (K.say_faults desk.new) }
-    ensures read_faults { K.read_faults desk.new ≡ K.read_faults desk.old }
-    ensures texts { K.texts desk.new ≡ K.texts desk.old }
+    ensures ok { OnOk result (SaidLines (option_to_list said) (K.seen desk.old) (K.seen desk.new)) }
+    ensures front { SaidFront (IsErrOf result Fault.Failed) (option_to_list said) (K.seen desk.old) (K.seen desk.new) }
 {
     match said {
         Some(line) => desk.say(line.as_slice()),
@@ -95,12 +67,8 @@ fn say_ending<K: Desk>(
     front: &[u8],
     status: Status,
 ) -> Result<(), Fault>
-    ensures ok { OnOk result (K.said desk.new ≡ told_more ((front.now ++ status_text status) ∷ []) (K.said desk.old)) }
-    ensures whole_or_nothing { SaidOrNot (front.now ++ status_text status) (K.said desk.old) (K.said desk.new) }
-    ensures no_memory { IsErrOf result Fault.NoMemory → K.said desk.new ≡ K.said desk.old }
-    ensures faults { RoseIf (IsErrOf result Fault.Failed) (K.say_faults desk.old) (K.say_faults desk.new) }
-    ensures read_faults { K.read_faults desk.new ≡ K.read_faults desk.old }
-    ensures texts { K.texts desk.new ≡ K.texts desk.old }
+    ensures ok { OnOk result (SaidLines ((front.now ++ status_text status) ∷ []) (K.seen desk.old) (K.seen desk.new)) }
+    ensures front { SaidFront (IsErrOf result Fault.Failed) ((front.now ++ status_text status) ∷ []) (K.seen desk.old) (K.seen desk.new) }
 {
     let text = status.text(alloc)?;
     say_joined(alloc, desk, front, text.as_slice())
@@ -108,39 +76,27 @@ fn say_ending<K: Desk>(
 
 // Says how the attempt ended.
 fn say_attempt<K: Desk>(alloc: Global, desk: &mut K, status: Status) -> Result<(), Fault>
-    ensures ok { OnOk result (K.said desk.new ≡ told_more (attempt_line status ∷ []) (K.said desk.old)) }
-    ensures whole_or_nothing { SaidOrNot (attempt_line status) (K.said desk.old) (K.said desk.new) }
-    ensures no_memory { IsErrOf result Fault.NoMemory → K.said desk.new ≡ K.said desk.old }
-    ensures faults { RoseIf (IsErrOf result Fault.Failed) (K.say_faults desk.old) (K.say_faults desk.new) }
-    ensures read_faults { K.read_faults desk.new ≡ K.read_faults desk.old }
-    ensures texts { K.texts desk.new ≡ K.texts desk.old }
+    ensures ok { OnOk result (SaidLines (attempt_line status ∷ []) (K.seen desk.old) (K.seen desk.new)) }
+    ensures front { SaidFront (IsErrOf result Fault.Failed) (attempt_line status ∷ []) (K.seen desk.old) (K.seen desk.new) }
 {
     say_ending(alloc, desk, b"attempt 1: ", status)
 }
 
 /// Says how the run ended.
 pub fn say_status<K: Desk>(alloc: Global, desk: &mut K, status: Status) -> Result<(), Fault>
-    ensures ok { OnOk result (K.said desk.new ≡ told_more (status_line status ∷ []) (K.said desk.old)) }
-    ensures whole_or_nothing { SaidOrNot (status_line status) (K.said desk.old) (K.said desk.new) }
-    ensures no_memory { IsErrOf result Fault.NoMemory → K.said desk.new ≡ K.said desk.old }
-    ensures faults { RoseIf (IsErrOf result Fault.Failed) (K.say_faults desk.old) (K.say_faults desk.new) }
-    ensures read_faults { K.read_faults desk.new ≡ K.read_faults desk.old }
-    ensures texts { K.texts desk.new ≡ K.texts desk.old }
+    ensures ok { OnOk result (SaidLines (status_line status ∷ []) (K.seen desk.old) (K.seen desk.new)) }
+    ensures front { SaidFront (IsErrOf result Fault.Failed) (status_line status ∷ []) (K.seen desk.old) (K.seen desk.new) }
 {
     say_ending(alloc, desk, b"status ", status)
 }
 
 // Says the number of rows of a table.
 fn say_table<K: Desk>(alloc: Global, desk: &mut K, stream: &Name, rows: u64) -> Result<(), Fault>
-    ensures ok { OnOk result (K.said desk.new ≡ told_more (table_line stream.now rows ∷ []) (K.said desk.old)) }
-    ensures whole_or_nothing { SaidOrNot (table_line stream.now rows) (K.said desk.old) (K.said desk.new) }
-    ensures no_memory { IsErrOf result Fault.NoMemory → K.said desk.new ≡ K.said desk.old }
-    ensures faults { RoseIf (IsErrOf result Fault.Failed) (K.say_faults desk.old) (K.say_faults desk.new) }
-    ensures read_faults { K.read_faults desk.new ≡ K.read_faults desk.old }
-    ensures texts { K.texts desk.new ≡ K.texts desk.old }
+    ensures ok { OnOk result (SaidLines (table_line_of stream.now rows ∷ []) (K.seen desk.old) (K.seen desk.new)) }
+    ensures front { SaidFront (IsErrOf result Fault.Failed) (table_line_of stream.now rows ∷ []) (K.seen desk.old) (K.seen desk.new) }
 {
-    let text = format!(in alloc; "{} rows {rows}", stream.as_str())?;
-    say_joined(alloc, desk, b"table ", text.as_bytes())
+    let line = table_line(alloc, stream, rows)?;
+    desk.say(line.as_slice())
 }
 
 // The rows that an event committed.
@@ -155,11 +111,8 @@ fn rows_in(event: &Event) -> &[RawRow]
 
 // Says the bodies of rows.
 fn say_bodies<K: Desk>(alloc: Global, desk: &mut K, rows: &[RawRow]) -> Result<(), Fault>
-    ensures ok { OnOk result (K.said desk.new ≡ told_more (body_lines rows.now) (K.said desk.old)) }
-    ensures front { GrewByFront (body_lines rows.now) (K.said desk.old) (K.said desk.new) }
-    ensures faults { RoseIf (IsErrOf result Fault.Failed) (K.say_faults desk.old) (K.say_faults desk.new) }
-    ensures read_faults { K.read_faults desk.new ≡ K.read_faults desk.old }
-    ensures texts { K.texts desk.new ≡ K.texts desk.old }
+    ensures ok { OnOk result (SaidLines (body_lines rows.now) (K.seen desk.old) (K.seen desk.new)) }
+    ensures front { SaidFront (IsErrOf result Fault.Failed) (body_lines rows.now) (K.seen desk.old) (K.seen desk.new) }
 {
     for row in rows {
         say_joined(alloc, desk, b"row ", row.body.as_slice())?;
@@ -169,11 +122,8 @@ fn say_bodies<K: Desk>(alloc: Global, desk: &mut K, rows: &[RawRow]) -> Result<(
 
 // Says the rows that events committed, in order.
 fn say_committed<K: Desk>(alloc: Global, desk: &mut K, events: &[Event]) -> Result<(), Fault>
-    ensures ok { OnOk result (K.said desk.new ≡ told_more (committed_lines events.now) (K.said desk.old)) }
-    ensures front { GrewByFront (committed_lines events.now) (K.said desk.old) (K.said desk.new) }
-    ensures faults { RoseIf (IsErrOf result Fault.Failed) (K.say_faults desk.old) (K.say_faults desk.new) }
-    ensures read_faults { K.read_faults desk.new ≡ K.read_faults desk.old }
-    ensures texts { K.texts desk.new ≡ K.texts desk.old }
+    ensures ok { OnOk result (SaidLines (committed_lines events.now) (K.seen desk.old) (K.seen desk.new)) }
+    ensures front { SaidFront (IsErrOf result Fault.Failed) (committed_lines events.now) (K.seen desk.old) (K.seen desk.new) }
 {
     for event in events {
         say_bodies(alloc, desk, rows_in(event))?;
@@ -183,11 +133,8 @@ fn say_committed<K: Desk>(alloc: Global, desk: &mut K, events: &[Event]) -> Resu
 
 // Says the table of a world: the number of its rows, and each row that was committed, in order.
 fn say_rows<K: Desk>(alloc: Global, desk: &mut K, world: &PlainWorld) -> Result<(), Fault>
-    ensures ok { OnOk result (K.said desk.new ≡ told_more (table_lines world.now.stream (committed_lines world.now.events)) (K.said desk.old)) }
-    ensures front { GrewByFront (table_lines world.now.stream (committed_lines world.now.events)) (K.said desk.old) (K.said desk.new) }
-    ensures faults { RoseIf (IsErrOf result Fault.Failed) (K.say_faults desk.old) (K.say_faults desk.new) }
-    ensures read_faults { K.read_faults desk.new ≡ K.read_faults desk.old }
-    ensures texts { K.texts desk.new ≡ K.texts desk.old }
+    ensures ok { OnOk result (SaidLines (table_lines world.now.stream (committed_lines world.now.events)) (K.seen desk.old) (K.seen desk.new)) }
+    ensures front { SaidFront (IsErrOf result Fault.Failed) (table_lines world.now.stream (committed_lines world.now.events)) (K.seen desk.old) (K.seen desk.new) }
 {
     say_table(alloc, desk, world.stream(), world.records())?;
     say_committed(alloc, desk, world.events().as_slice())
@@ -198,16 +145,13 @@ fn say_table_at<K: Desk>(
     alloc: Global,
     desk: &mut K,
     world: &PlainWorld,
-    end: Status,
+    end: End,
 ) -> Result<(), Fault>
-    ensures ok { OnOk result (K.said desk.new ≡ told_more (table_at world.now.stream (committed_lines world.now.events) end) (K.said desk.old)) }
-    ensures front { GrewByFront (table_at world.now.stream (committed_lines world.now.events) end) (K.said desk.old) (K.said desk.new) }
-    ensures faults { RoseIf (IsErrOf result Fault.Failed) (K.say_faults desk.old) (K.say_faults desk.new) }
-    ensures read_faults { K.read_faults desk.new ≡ K.read_faults desk.old }
-    ensures texts { K.texts desk.new ≡ K.texts desk.old }
+    ensures ok { OnOk result (SaidLines (table_at world.now.stream (committed_lines world.now.events) end) (K.seen desk.old) (K.seen desk.new)) }
+    ensures front { SaidFront (IsErrOf result Fault.Failed) (table_at world.now.stream (committed_lines world.now.events) end) (K.seen desk.old) (K.seen desk.new) }
 {
     match end {
-        Status::Ok => say_rows(alloc, desk, world),
+        End::Ok => say_rows(alloc, desk, world),
         _ => Ok(()),
     }
 }
@@ -217,14 +161,11 @@ pub fn say_end<K: Desk>(
     alloc: Global,
     desk: &mut K,
     world: &PlainWorld,
-    end: Status,
+    end: End,
 ) -> Result<(), Fault>
-    ensures ok { OnOk result (K.said desk.new ≡ told_more (end_lines world.now.stream (committed_lines world.now.events) end) (K.said desk.old)) }
-    ensures front { GrewByFront (end_lines world.now.stream (committed_lines world.now.events) end) (K.said desk.old) (K.said desk.new) }
-    ensures faults { RoseIf (IsErrOf result Fault.Failed) (K.say_faults desk.old) (K.say_faults desk.new) }
-    ensures read_faults { K.read_faults desk.new ≡ K.read_faults desk.old }
-    ensures texts { K.texts desk.new ≡ K.texts desk.old }
+    ensures ok { OnOk result (SaidLines (end_lines world.now.stream (committed_lines world.now.events) end) (K.seen desk.old) (K.seen desk.new)) }
+    ensures front { SaidFront (IsErrOf result Fault.Failed) (end_lines world.now.stream (committed_lines world.now.events) end) (K.seen desk.old) (K.seen desk.new) }
 {
-    say_attempt(alloc, desk, end)?;
+    say_attempt(alloc, desk, end.status())?;
     say_table_at(alloc, desk, world, end)
 }

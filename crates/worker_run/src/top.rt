@@ -1,10 +1,12 @@
 // The worker's top call.
-ghost use Rattle.std.specs.Prelude.{◌≡◌, ◌≢◌, None, IfNone, IsSome, map, string_bytes, IfOk, OnErr, IsErrOf};
+ghost use Rattle.std.specs.Prelude.{◌≡◌, None, Some, IfNone, IsSome, map, string_bytes, IfOk, OnErr, IsErrOf};
 ghost use Rattle.basics.specs.Told.{Rose, RoseIf};
-ghost use Rattle.worker_run.specs.Reading.{Reads, ReadsSome, Attempted, StopsShort, SaysBody, SaysLast, EndsAtFault, Says, IsOnlyEnd, EndsWithStatus, NothingUnbuilt, IsOkOrNoMemory, IsReadFault, IsSayFault, IsUsageEnd};
+ghost use Rattle.outside.specs.Desk.{SaysOnly};
+ghost use Rattle.worker_run.specs.Reading.{Reads, ReadsSome, Attempted, StopsShort, SaysBody, SaysLast, EndsAtFault, WritesOut, Says, EndsWithoutCommand, EndsAndSays, IsOnlyEnd, EndsWithStatus, NothingUnbuilt, IsOkOrNoMemory, IsReadFault, IsSayFault, IsUsageEnd};
 ghost use Rattle.worker_run.specs.Words.{asked as asked_of};
 
 use crate::catalog::stream_of;
+use crate::end::End;
 use crate::output::{say_end, say_heard, say_saved, say_status, say_usage};
 use crate::words::{TextNames, asked};
 use crate::{PlainWorld, Step};
@@ -12,40 +14,38 @@ use outside::{Bytes, Desk, Fault, Link, Name, Status};
 use std::alloc::Global;
 
 // What a fault of reading makes of a run.
-fn read_fault(fault: Fault) -> Status
+fn read_fault(fault: Fault) -> End
     ensures { IsReadFault fault result }
 {
     match fault {
-        Fault::Failed => Status::FileFault,
-        Fault::NoMemory => Status::NoMemory,
+        Fault::Failed => End::FileFault,
+        Fault::NoMemory => End::NoMemory,
     }
 }
 
 // What a fault of saying makes of a run.
-fn say_fault(fault: Fault) -> Status
+fn say_fault(fault: Fault) -> End
     ensures { IsSayFault fault result }
 {
     match fault {
-        Fault::Failed => Status::SayFault,
-        Fault::NoMemory => Status::NoMemory,
+        Fault::Failed => End::SayFault,
+        Fault::NoMemory => End::NoMemory,
     }
 }
 
 // Takes the lines of a world one by one, and says what each of them says.
-fn take_lines<K: Desk>(alloc: Global, desk: &mut K, world: &mut PlainWorld) -> Result<Status, Fault>
-    ensures lines { IfOk result (λ end. Reads world.old world.new end (K.said desk.old) (K.said desk.new)) }
-    ensures fault { OnErr result (ReadsSome world.old (K.said desk.old) (K.said desk.new)) }
-    ensures faults { RoseIf (IsErrOf result Fault.Failed) (K.say_faults desk.old) (K.say_faults desk.new) }
-    ensures read_faults { K.read_faults desk.new ≡ K.read_faults desk.old }
-    ensures texts { K.texts desk.new ≡ K.texts desk.old }
+fn take_lines<K: Desk>(alloc: Global, desk: &mut K, world: &mut PlainWorld) -> Result<End, Fault>
+    ensures lines { IfOk result (λ end. Reads world.old world.new end (K.seen desk.old).said (K.seen desk.new).said) }
+    ensures fault { OnErr result (ReadsSome world.old (K.seen desk.old).said (K.seen desk.new).said) }
+    ensures only { SaysOnly (IsErrOf result Fault.Failed) (K.seen desk.old) (K.seen desk.new) }
 {
     'lines: for _ in 0..u64::MAX {
         match world.step()? {
             Step::Record => {}
             Step::Saved(object) => say_saved(alloc, desk, object.as_slice())?,
             Step::Other(said) => say_heard(desk, said)?,
-            Step::Done => return Ok(Status::Ok),
-            Step::Unbuilt(line) => return Ok(Status::Unbuilt { line }),
+            Step::Done => return Ok(End::Ok),
+            Step::Unbuilt(line) => return Ok(End::Unbuilt { line }),
         }
     }
     Err(Fault::NoMemory)
@@ -57,12 +57,10 @@ fn run_attempt<K: Desk>(
     desk: &mut K,
     messages: Bytes,
     stream: Name,
-) -> Result<Status, Fault>
-    ensures attempt { IfOk result (λ end. Attempted messages stream end (K.said desk.old) (K.said desk.new)) }
-    ensures fault { OnErr result (StopsShort messages stream (K.said desk.old) (K.said desk.new)) }
-    ensures faults { RoseIf (IsErrOf result Fault.Failed) (K.say_faults desk.old) (K.say_faults desk.new) }
-    ensures read_faults { K.read_faults desk.new ≡ K.read_faults desk.old }
-    ensures texts { K.texts desk.new ≡ K.texts desk.old }
+) -> Result<End, Fault>
+    ensures attempt { IfOk result (λ end. Attempted messages stream end (K.seen desk.old).said (K.seen desk.new).said) }
+    ensures fault { OnErr result (StopsShort messages stream (K.seen desk.old).said (K.seen desk.new).said) }
+    ensures only { SaysOnly (IsErrOf result Fault.Failed) (K.seen desk.old) (K.seen desk.new) }
 {
     let mut world = PlainWorld::new(alloc, messages, stream)?;
     let end = take_lines(alloc, desk, &mut world)?;
@@ -71,11 +69,11 @@ fn run_attempt<K: Desk>(
 }
 
 // The command `local`, but for its last line.
-fn run_local<K: Desk>(alloc: Global, desk: &mut K, names: TextNames<'_>) -> Status
-    ensures says { SaysBody (K.texts desk.old) (Some (record { messages = names.entry.messages.now; catalog = names.entry.catalog.now })) result (K.said desk.old) (K.said desk.new) }
-    ensures read_faults { RoseIf (result ≡ Status.FileFault) (K.read_faults desk.old) (K.read_faults desk.new) }
-    ensures say_faults { RoseIf (result ≡ Status.SayFault) (K.say_faults desk.old) (K.say_faults desk.new) }
-    ensures texts { K.texts desk.new ≡ K.texts desk.old }
+fn run_local<K: Desk>(alloc: Global, desk: &mut K, names: TextNames<'_>) -> End
+    ensures says { SaysBody (K.seen desk.old).texts (Some (record { messages = names.entry.messages.now; catalog = names.entry.catalog.now })) result (K.seen desk.old).said (K.seen desk.new).said }
+    ensures read_faults { RoseIf (result ≡ End.FileFault) (K.seen desk.old).read_faults (K.seen desk.new).read_faults }
+    ensures say_faults { RoseIf (result ≡ End.SayFault) (K.seen desk.old).say_faults (K.seen desk.new).say_faults }
+    ensures texts { (K.seen desk.new).texts ≡ (K.seen desk.old).texts }
 {
     let catalog = match desk.read_text(alloc, names.catalog) {
         Ok(text) => text,
@@ -83,8 +81,8 @@ fn run_local<K: Desk>(alloc: Global, desk: &mut K, names: TextNames<'_>) -> Stat
     };
     let stream = match stream_of(alloc, catalog.as_slice()) {
         Ok(Some(stream)) => stream,
-        Ok(None) => return Status::Unbuilt { line: 0 },
-        Err(_) => return Status::NoMemory,
+        Ok(None) => return End::Unbuilt { line: 0 },
+        Err(_) => return End::NoMemory,
     };
     let messages = match desk.read_text(alloc, names.messages) {
         Ok(text) => text,
@@ -97,54 +95,78 @@ fn run_local<K: Desk>(alloc: Global, desk: &mut K, names: TextNames<'_>) -> Stat
 }
 
 // Does what the words ask for, but for the last line.
-fn run_words<K: Desk>(alloc: Global, desk: &mut K, words: &[String]) -> Status
-    ensures says { SaysBody (K.texts desk.old) (asked_of (map string_bytes words.now)) result (K.said desk.old) (K.said desk.new) }
-    ensures other_words { IfNone (asked_of (map string_bytes words.now)) (IsUsageEnd result) }
-    ensures read_faults { RoseIf (result ≡ Status.FileFault) (K.read_faults desk.old) (K.read_faults desk.new) }
-    ensures say_faults { RoseIf (result ≡ Status.SayFault) (K.say_faults desk.old) (K.say_faults desk.new) }
-    ensures texts { K.texts desk.new ≡ K.texts desk.old }
+fn run_words<K: Desk>(alloc: Global, desk: &mut K, words: &[String]) -> End
+    ensures says { SaysBody (K.seen desk.old).texts (asked_of (map string_bytes words.now)) result (K.seen desk.old).said (K.seen desk.new).said }
+    ensures read_faults { RoseIf (result ≡ End.FileFault) (K.seen desk.old).read_faults (K.seen desk.new).read_faults }
+    ensures say_faults { RoseIf (result ≡ End.SayFault) (K.seen desk.old).say_faults (K.seen desk.new).say_faults }
+    ensures texts { (K.seen desk.new).texts ≡ (K.seen desk.old).texts }
+    ensures other_words { IfNone (asked_of (map string_bytes words.now)) (EndsWithoutCommand result) }
 {
     match asked(words) {
         Some(names) => run_local(alloc, desk, names),
         None => match say_usage(desk) {
-            Ok(()) => Status::Usage,
+            Ok(()) => End::Usage,
             Err(fault) => say_fault(fault),
         },
     }
 }
 
 // Says how the run ended, unless a line could not be said before or memory is wanting.
-fn say_last<K: Desk>(alloc: Global, desk: &mut K, end: Status) -> Status
-    ensures last { SaysLast end result (K.said desk.old) (K.said desk.new) }
-    ensures say_faults { RoseIf (EndsAtFault end result) (K.say_faults desk.old) (K.say_faults desk.new) }
-    ensures read_faults { K.read_faults desk.new ≡ K.read_faults desk.old }
-    ensures texts { K.texts desk.new ≡ K.texts desk.old }
+fn say_last<K: Desk>(alloc: Global, desk: &mut K, end: End) -> End
+    ensures last { SaysLast end result (K.seen desk.old).said (K.seen desk.new).said }
+    ensures only { SaysOnly (EndsAtFault end result) (K.seen desk.old) (K.seen desk.new) }
 {
-    if matches!(end, Status::SayFault | Status::NoMemory) {
+    if matches!(end, End::SayFault | End::NoMemory) {
         return end;
     }
-    match say_status(alloc, desk, end) {
+    match say_status(alloc, desk, end.status()) {
         Ok(()) => end,
         Err(fault) => say_fault(fault),
     }
 }
 
-/// Runs the worker: does what the words ask for, says its lines on the desk, and answers how it ended.
-///
-/// After a line that could not be said, and without memory, nothing more is said; else the last line said is `status `
-/// and the text of the answer. The link is not used by the commands that are built.
-pub fn run<K: Desk, L: Link>(alloc: Global, desk: &mut K, _link: &mut L, words: &[String]) -> Status
-    ensures says { Says (K.texts desk.old) (asked_of (map string_bytes words.now)) (Rose (K.read_faults desk.old) (K.read_faults desk.new)) result (K.said desk.old) (K.said desk.new) }
-    ensures only { IsOnlyEnd (K.texts desk.old) (asked_of (map string_bytes words.now)) result }
-    ensures last { EndsWithStatus result (K.said desk.old) (K.said desk.new) }
+// Writes out what was said.
+fn write_out<K: Desk>(desk: &mut K, last: End) -> End
+    ensures writes { WritesOut last result }
+    ensures said { (K.seen desk.new).said ≡ (K.seen desk.old).said }
+    ensures only { SaysOnly (EndsAtFault last result) (K.seen desk.old) (K.seen desk.new) }
+{
+    match desk.flush() {
+        Ok(()) => last,
+        Err(Fault::Failed) => End::SayFault,
+        Err(Fault::NoMemory) => unreachable!(),
+    }
+}
 
-    ensures usage { result ≡ Status.Usage → asked_of (map string_bytes words.now) ≡ None }
-    ensures other_words { IfNone (asked_of (map string_bytes words.now)) (IsUsageEnd result) }
-    ensures read_faults { RoseIf (result ≡ Status.FileFault) (K.read_faults desk.old) (K.read_faults desk.new) }
-    ensures say_faults { RoseIf (result ≡ Status.SayFault) (K.say_faults desk.old) (K.say_faults desk.new) }
-    ensures complete { IsSome (asked_of (map string_bytes words.now)) → NothingUnbuilt (K.texts desk.old) (asked_of (map string_bytes words.now)) → ¬ Rose (K.read_faults desk.old) (K.read_faults desk.new) → ¬ Rose (K.say_faults desk.old) (K.say_faults desk.new) → IsOkOrNoMemory result }
-    ensures texts { K.texts desk.new ≡ K.texts desk.old }
+// Does what the words ask for, says its lines and writes them out.
+fn run_to_end<K: Desk>(alloc: Global, desk: &mut K, words: &[String]) -> End
+    ensures says { Says (K.seen desk.old).texts (asked_of (map string_bytes words.now)) (Rose (K.seen desk.old).read_faults (K.seen desk.new).read_faults) result (K.seen desk.old).said (K.seen desk.new).said }
+    ensures read_faults { RoseIf (result ≡ End.FileFault) (K.seen desk.old).read_faults (K.seen desk.new).read_faults }
+    ensures say_faults { RoseIf (result ≡ End.SayFault) (K.seen desk.old).say_faults (K.seen desk.new).say_faults }
+    ensures texts { (K.seen desk.new).texts ≡ (K.seen desk.old).texts }
+    ensures other_words { IfNone (asked_of (map string_bytes words.now)) (EndsWithoutCommand result) }
 {
     let end = run_words(alloc, desk, words);
-    say_last(alloc, desk, end)
+    let last = say_last(alloc, desk, end);
+    write_out(desk, last)
+}
+
+/// Runs the worker: does what the words ask for, says its lines on the desk, writes them out, and answers how it ended.
+///
+/// After a line that could not be said, and without memory, nothing more is said; else the last line said is `status `
+/// and the text of the answer. Where what was said cannot be written out, the answer is `SayFault`. The link is not used
+/// by the commands that are built.
+pub fn run<K: Desk, L: Link>(alloc: Global, desk: &mut K, _link: &mut L, words: &[String]) -> Status
+    ensures says { EndsAndSays (K.seen desk.old).texts (asked_of (map string_bytes words.now)) (Rose (K.seen desk.old).read_faults (K.seen desk.new).read_faults) result (K.seen desk.old).said (K.seen desk.new).said }
+    ensures only { IsOnlyEnd (K.seen desk.old).texts (asked_of (map string_bytes words.now)) result }
+    ensures last { EndsWithStatus result (K.seen desk.old).said (K.seen desk.new).said }
+    ensures usage { result ≡ Status.Usage → asked_of (map string_bytes words.now) ≡ None }
+    ensures other_words { IfNone (asked_of (map string_bytes words.now)) (IsUsageEnd result) }
+    ensures read_faults { RoseIf (result ≡ Status.FileFault) (K.seen desk.old).read_faults (K.seen desk.new).read_faults }
+    ensures say_faults { RoseIf (result ≡ Status.SayFault) (K.seen desk.old).say_faults (K.seen desk.new).say_faults }
+    ensures complete { IsSome (asked_of (map string_bytes words.now)) → NothingUnbuilt (K.seen desk.old).texts (asked_of (map string_bytes words.now)) → ¬ Rose (K.seen desk.old).read_faults (K.seen desk.new).read_faults → ¬ Rose (K.seen desk.old).say_faults (K.seen desk.new).say_faults → IsOkOrNoMemory result }
+    ensures texts { (K.seen desk.new).texts ≡ (K.seen desk.old).texts }
+    ensures link { L.seen _link.new ≡ L.seen _link.old }
+{
+    run_to_end(alloc, desk, words).status()
 }

@@ -43,6 +43,18 @@ fn after_a_line_that_cannot_be_said_nothing_more_is_said(rt: HostRuntime) -> Res
 }
 
 #[test]
+fn what_cannot_be_written_out_is_a_fault_of_saying(rt: HostRuntime) -> Result<(), Fail> {
+    let alloc = rt.alloc();
+    let words = local_words(alloc)?;
+    let failing = LINES.len() as u64 + 3;
+    let mut desk = desk_of(alloc, MESSAGES.as_bytes(), CATALOG.as_bytes(), failing)?;
+    let answer = worker_run::run(alloc, &mut desk, &mut NoLink::new(), &words);
+    assert_eq!(rt; answer, Status::SayFault);
+    assert_said(&rt, &desk, &LINES, "a flush that fails");
+    Ok(())
+}
+
+#[test]
 fn a_desk_without_a_fault_says_all(rt: HostRuntime) -> Result<(), Fail> {
     let alloc = rt.alloc();
     let words = local_words(alloc)?;

@@ -6,8 +6,10 @@ mod desks;
 #[cfg(test)]
 mod failing;
 #[cfg(test)]
-mod heard;
-#[cfg(test)]
 mod local;
+#[cfg(test)]
+mod source_lines;
+#[cfg(test)]
+mod statuses;
 #[cfg(test)]
 mod world;

@@ -213,6 +213,45 @@ fn null_members_and_white_space_of_a_catalog_are_passed_over(rt: HostRuntime) ->
 }
 
 #[test]
+fn a_name_with_control_bytes_begins_no_line(rt: HostRuntime) -> Result<(), Fail> {
+    let alloc = rt.alloc();
+    let words = local_words(alloc)?;
+    let catalog =
+        r#"{"streams":[{"stream":{"name":"a\nstatus 0 Ok\u0001"},"sync_mode":"incremental","destination_sync_mode":"append"}]}"#;
+    let mut desk = desk_of(alloc, b"", catalog.as_bytes(), 0)?;
+    let answer = worker_run::run(alloc, &mut desk, &mut NoLink::new(), &words);
+    assert_eq!(rt; answer, Status::Ok);
+    assert_said(
+        &rt,
+        &desk,
+        &[
+            "attempt 1: 0 Ok",
+            "table a status 0 Ok  rows 0",
+            "status 0 Ok",
+        ],
+        "a name that would begin a line",
+    );
+    Ok(())
+}
+
+#[test]
+fn a_missing_text_ends_the_run(rt: HostRuntime) -> Result<(), Fail> {
+    let alloc = rt.alloc();
+    let cases: [&[&str]; 2] = [
+        &["local", "--messages", "none", "--catalog", "c"],
+        &["local", "--messages", "m", "--catalog", "none"],
+    ];
+    for texts in cases {
+        let words = words_of(alloc, texts)?;
+        let mut desk = desk_of(alloc, b"", CATALOG.as_bytes(), 0)?;
+        let answer = worker_run::run(alloc, &mut desk, &mut NoLink::new(), &words);
+        assert_eq!(rt; answer, Status::FileFault);
+        assert_said(&rt, &desk, &["status 13 FileFault"], "a missing text");
+    }
+    Ok(())
+}
+
+#[test]
 fn words_of_another_form_get_the_usage(rt: HostRuntime) -> Result<(), Fail> {
     let alloc = rt.alloc();
     let cases: [&[&str]; 8] = [

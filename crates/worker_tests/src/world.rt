@@ -1,5 +1,7 @@
 // The plain world, and the small types of the outside, on their happy paths.
-use outside::{AttemptPlan, Boxed, Bytes, Event, Fault, Job, Link, Name, NoLink, Sequence, Status};
+use outside::{
+    AttemptPlan, Boxed, Bytes, Event, Fault, Job, Link, Name, NoLink, Offered, Polled, Sequence,
+};
 use std::test::Fail;
 use worker_run::{PlainWorld, Step};
 
@@ -105,23 +107,6 @@ fn a_line_that_is_no_message_is_read_and_not_given(rt: HostRuntime) -> Result<()
 }
 
 #[test]
-fn statuses_have_their_numbers_and_texts(rt: HostRuntime) -> Result<(), Fail> {
-    let cases = [
-        (Status::Ok, 0, "0 Ok"),
-        (Status::Usage, 2, "2 Usage"),
-        (Status::FileFault, 13, "13 FileFault"),
-        (Status::SayFault, 42, "42 SayFault"),
-        (Status::Unbuilt { line: 7 }, 60, "60 Unbuilt line 7"),
-        (Status::NoMemory, 70, "70 NoMemory"),
-    ];
-    for (status, number, text) in cases {
-        assert_eq!(rt; status.number(), number);
-        assert_eq!(rt; status.text(rt.alloc())?.as_slice(), text.as_bytes());
-    }
-    Ok(())
-}
-
-#[test]
 fn no_link_fails_and_knows_nothing(rt: HostRuntime) -> Result<(), Fail> {
     let alloc = rt.alloc();
     let mut link = NoLink::new();
@@ -135,6 +120,10 @@ fn no_link_fails_and_knows_nothing(rt: HostRuntime) -> Result<(), Fail> {
     assert!(rt; matches!(link.load_states(alloc, "s"), Err(Fault::Failed)));
     assert!(rt; matches!(link.save_states("s", b""), Err(Fault::Failed)));
     assert!(rt; matches!(link.start(&plan), Err(Fault::Failed)));
+    assert!(rt; matches!(link.poll_source(), Polled::Failed));
+    assert!(rt; matches!(link.poll_dest(), Polled::Failed));
+    assert!(rt; matches!(link.offer_dest(b"x"), Offered::Failed));
+    assert!(rt; matches!(link.close_dest(), Err(Fault::Failed)));
     assert!(rt; link.exit_codes().source.is_none());
     assert!(rt; matches!(link.stop(), Err(Fault::Failed)));
     link.wait();

@@ -1,8 +1,8 @@
 use Rattle.std.proofs.Common.{ap, sym, codes}
 use Rattle.std.specs.Option.{option_copied}
 use Rattle.json_fields.specs.Fields.{line_depth}
-use Rattle.airbyte_message.specs.Parts.{HasArray}
-use Rattle.airbyte_message.proofs.AnswerLemmas.{along, along_only, uncut}
+use Rattle.json_fields.specs.Parts.{HasArray}
+use Rattle.json_fields.proofs.AnswerLemmas.{along, along_only, uncut}
 use Rattle.airbyte_message.proofs.MessageLemmas.{catalog_answer, catalog_uncut, catalog_absent}
 use Rattle.airbyte_message.proofs.catalog_message.catalog_of.Goals as goal
 

@@ -1,6 +1,6 @@
 use Rattle.std.proofs.Common.{codes}
 use Rattle.json_fields.specs.Fields.{HasOptionalText, line_depth}
-use Rattle.airbyte_message.proofs.AnswerLemmas.{along, uncut}
+use Rattle.json_fields.proofs.AnswerLemmas.{along, uncut}
 use Rattle.airbyte_message.proofs.MessageLemmas.{IsSuccessOf, connection_answer, connection_uncut, connection_no_status, connection_no_message}
 use Rattle.airbyte_message.proofs.connection_message.connection_of.Goals as goal
 

@@ -1,7 +1,7 @@
 use Rattle.std.proofs.Common.{codes}
 use Rattle.json_fields.specs.Fields.{HasText}
 use Rattle.airbyte_message.specs.Words.{connection_text}
-use Rattle.airbyte_message.proofs.AnswerLemmas.{along, word_text, word_absent}
+use Rattle.json_fields.proofs.AnswerLemmas.{along, word_text, word_absent}
 use Rattle.airbyte_message.proofs.connection_message.success_of.Goals as goal
 
 pub returns : goal.returns

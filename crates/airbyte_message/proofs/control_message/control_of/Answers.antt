@@ -1,7 +1,7 @@
 use Rattle.std.proofs.Common.{List, ℕ, ap, sym, codes}
 use Rattle.json_fields.specs.Fields.{HasText, line_depth}
 use Rattle.airbyte_message.specs.Messages.{IsControl}
-use Rattle.airbyte_message.proofs.AnswerLemmas.{along, along_only, uncut}
+use Rattle.json_fields.proofs.AnswerLemmas.{along, along_only, uncut}
 use Rattle.airbyte_message.proofs.MessageLemmas.{control_msg, control_answer, control_uncut, control_untyped}
 use Rattle.airbyte_message.proofs.control_message.control_of.Goals as goal
 

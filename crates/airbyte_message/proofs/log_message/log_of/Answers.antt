@@ -1,6 +1,6 @@
 use Rattle.std.proofs.Common.{codes}
 use Rattle.json_fields.specs.Fields.{HasText, line_depth}
-use Rattle.airbyte_message.proofs.AnswerLemmas.{along, uncut}
+use Rattle.json_fields.proofs.AnswerLemmas.{along, uncut}
 use Rattle.airbyte_message.proofs.MessageLemmas.{IsLevelOf, log_answer, log_uncut, log_no_level, log_no_message}
 use Rattle.airbyte_message.proofs.log_message.log_of.Goals as goal
 

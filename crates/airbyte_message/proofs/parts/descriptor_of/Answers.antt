@@ -2,7 +2,7 @@ use Rattle.std.proofs.Common.{ap, codes, None}
 use Rattle.std.specs.Option.{option_copied}
 use Rattle.std.proofs.lemmas.Result.{IfOk-weaker}
 use Rattle.json_fields.specs.Fields.{HasField, line_depth}
-use Rattle.airbyte_message.proofs.AnswerLemmas.{along, uncut}
+use Rattle.json_fields.proofs.AnswerLemmas.{along, uncut}
 use Rattle.airbyte_message.proofs.PartLemmas.{descriptor_at, descriptor_absent, stream_id_uncut}
 use Rattle.airbyte_message.proofs.parts.descriptor_of.Goals as goal
 

@@ -1,6 +1,6 @@
 use Rattle.std.proofs.Common.{codes}
 use Rattle.json_fields.specs.Fields.{HasText, HasOptionalText}
-use Rattle.airbyte_message.proofs.AnswerLemmas.{along}
+use Rattle.json_fields.proofs.AnswerLemmas.{along}
 use Rattle.airbyte_message.proofs.PartLemmas.{stream_id_answer, stream_id_unnamed, stream_id_misplaced}
 use Rattle.airbyte_message.proofs.parts.stream_id_of.Goals as goal
 

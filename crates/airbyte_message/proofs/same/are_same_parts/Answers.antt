@@ -1,6 +1,6 @@
 use Rattle.std.proofs.Common.{◌≡◌, ◌<◌, ◌∙◌, sym, map, length, arith}
 use Rattle.airbyte_message.specs.Same.{part_form}
-use Rattle.airbyte_message.proofs.AnswerLemmas.{true_false}
+use Rattle.json_fields.proofs.AnswerLemmas.{true_false}
 use Rattle.airbyte_message.proofs.SameLemmas.{fails, maps_differ}
 use Rattle.airbyte_message.proofs.same.are_same_parts.Goals as goal
 

@@ -1,8 +1,8 @@
 use Rattle.std.proofs.Common.{ap, sym, codes}
 use Rattle.std.specs.Option.{option_copied}
 use Rattle.json_fields.specs.Fields.{line_depth}
-use Rattle.airbyte_message.specs.Parts.{HasObject}
-use Rattle.airbyte_message.proofs.AnswerLemmas.{along, along_only, uncut}
+use Rattle.json_fields.specs.Parts.{HasObject}
+use Rattle.json_fields.proofs.AnswerLemmas.{along, along_only, uncut}
 use Rattle.airbyte_message.proofs.MessageLemmas.{spec_answer, spec_uncut, spec_absent}
 use Rattle.airbyte_message.proofs.spec_message.spec_of.Goals as goal
 

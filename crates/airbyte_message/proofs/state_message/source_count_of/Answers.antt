@@ -2,7 +2,7 @@ use Rattle.std.proofs.Common.{ap, codes}
 use Rattle.std.proofs.lemmas.Result.{IfOk-weaker}
 use Rattle.std.specs.Option.{option_copied}
 use Rattle.json_fields.specs.Fields.{HasOptional}
-use Rattle.airbyte_message.proofs.AnswerLemmas.{along_only}
+use Rattle.json_fields.proofs.AnswerLemmas.{along_only}
 use Rattle.airbyte_message.proofs.StateLemmas.{has_stats, has_stats_absent}
 use Rattle.airbyte_message.proofs.state_message.source_count_of.Goals as goal
 

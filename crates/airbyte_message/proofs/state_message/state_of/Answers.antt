@@ -1,6 +1,6 @@
 use Rattle.std.proofs.Common.{List, ℕ, ap, sym}
 use Rattle.airbyte_message.specs.States.{HasStateType, IsKind, HasStats, IsState, state_depth}
-use Rattle.airbyte_message.proofs.AnswerLemmas.{along, along_only, uncut, within}
+use Rattle.json_fields.proofs.AnswerLemmas.{along, along_only, uncut, within}
 use Rattle.airbyte_message.proofs.StateLemmas.{state_msg, state_answer, state_uncut, state_untyped, state_no_kind, state_no_count}
 use Rattle.airbyte_message.proofs.state_message.state_of.Goals as goal
 

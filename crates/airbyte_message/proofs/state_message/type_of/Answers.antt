@@ -1,6 +1,6 @@
 use Rattle.std.proofs.Common.{codes}
 use Rattle.json_fields.specs.Fields.{HasOptionalText}
-use Rattle.airbyte_message.proofs.AnswerLemmas.{along}
+use Rattle.json_fields.proofs.AnswerLemmas.{along}
 use Rattle.airbyte_message.proofs.StateLemmas.{state_type_at, state_type_absent}
 use Rattle.airbyte_message.proofs.state_message.type_of.Goals as goal
 

@@ -2,7 +2,7 @@ use Rattle.std.proofs.Common.{ap, codes, sym}
 use Rattle.std.specs.Option.{option_copied}
 use Rattle.json_fields.specs.Fields.{HasField, HasOptional, line_depth}
 use Rattle.airbyte_message.specs.States.{HasStreamBlobs}
-use Rattle.airbyte_message.proofs.AnswerLemmas.{along, along_only, uncut}
+use Rattle.json_fields.proofs.AnswerLemmas.{along, along_only, uncut}
 use Rattle.airbyte_message.proofs.StateLemmas.{global_answer, global_absent, global_uncut, global_no_list}
 use Rattle.airbyte_message.proofs.stream_blob.global_of.Goals as goal
 

@@ -1,7 +1,7 @@
 use Rattle.std.proofs.Common.{sym, codes}
 use Rattle.json_fields.specs.Fields.{HasOptional, line_depth}
 use Rattle.airbyte_message.specs.Parts.{HasDescriptor}
-use Rattle.airbyte_message.proofs.AnswerLemmas.{along, along_only, uncut}
+use Rattle.json_fields.proofs.AnswerLemmas.{along, along_only, uncut}
 use Rattle.airbyte_message.proofs.StateLemmas.{stream_blob_answer, stream_blob_unnamed, stream_blob_uncut}
 use Rattle.airbyte_message.proofs.stream_blob.stream_blob_of.Goals as goal
 

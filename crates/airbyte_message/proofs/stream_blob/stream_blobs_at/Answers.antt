@@ -2,7 +2,7 @@ use Rattle.std.proofs.Common.{◌≡◌, ◌<◌, List, length, take, subst}
 use Rattle.std.proofs.lemmas.List.{take_all}
 use Rattle.json_span.specs.declared.Span.{Span}
 use Rattle.airbyte_message.specs.States.{IsStreamBlob}
-use Rattle.airbyte_message.proofs.AnswerLemmas.{along}
+use Rattle.json_fields.proofs.AnswerLemmas.{along}
 use Rattle.airbyte_message.proofs.StateLemmas.{AreOnly, stream_blobs_only, stream_blobs_more, stream_blobs_none}
 use Rattle.airbyte_message.proofs.stream_blob.stream_blobs_at.Goals as goal
 

@@ -3,8 +3,8 @@ use Rattle.std.specs.Option.{option_copied}
 use Rattle.std.proofs.lemmas.Result.{IfOk-weaker}
 use Rattle.json_span.specs.declared.Span.{Span}
 use Rattle.json_fields.specs.Fields.{HasField}
-use Rattle.airbyte_message.specs.Parts.{IsCutList}
-use Rattle.airbyte_message.proofs.AnswerLemmas.{along}
+use Rattle.json_fields.specs.Parts.{IsCutList}
+use Rattle.json_fields.proofs.AnswerLemmas.{along}
 use Rattle.airbyte_message.proofs.StateLemmas.{stream_blobs_at, stream_blobs_absent, stream_blobs_uncut, list_uncut}
 use Rattle.airbyte_message.proofs.stream_blob.stream_blobs_of.Goals as goal
 

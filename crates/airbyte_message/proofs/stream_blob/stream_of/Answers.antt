@@ -2,7 +2,7 @@ use Rattle.std.proofs.Common.{ap, codes}
 use Rattle.std.specs.Option.{option_copied}
 use Rattle.std.proofs.lemmas.Result.{IfOk-weaker}
 use Rattle.json_fields.specs.Fields.{HasField}
-use Rattle.airbyte_message.proofs.AnswerLemmas.{along}
+use Rattle.json_fields.proofs.AnswerLemmas.{along}
 use Rattle.airbyte_message.proofs.StateLemmas.{stream_at, stream_absent}
 use Rattle.airbyte_message.proofs.stream_blob.stream_of.Goals as goal
 

@@ -2,7 +2,7 @@ use Rattle.std.proofs.Common.{Option, List, ℕ, ap, sym, codes}
 use Rattle.std.specs.Option.{option_copied}
 use Rattle.json_fields.specs.Fields.{HasField, HasText, line_depth}
 use Rattle.airbyte_message.specs.Traces.{IsTold}
-use Rattle.airbyte_message.proofs.AnswerLemmas.{along, along_only, uncut}
+use Rattle.json_fields.proofs.AnswerLemmas.{along, along_only, uncut}
 use Rattle.airbyte_message.proofs.TraceLemmas.{HasFailure, error_answer, error_absent, error_uncut, error_no_message, error_no_failure}
 use Rattle.airbyte_message.specs.declared.message.TraceMsg.TheVariants as trace
 use Rattle.airbyte_message.specs.declared.trace_message.TraceType.TheVariants as types

@@ -2,7 +2,7 @@ use Rattle.std.proofs.Common.{◌≡◌, Option, List, ℕ, ap, codes, ◌∙◌
 use Rattle.json_fields.specs.Fields.{HasOptionalText}
 use Rattle.airbyte_message.specs.Words.{failure_text}
 use Rattle.airbyte_message.specs.declared.failure_type.FailureType.{FailureType}
-use Rattle.airbyte_message.proofs.AnswerLemmas.{along, optional_word, optional_word_absent, optional_word_none}
+use Rattle.json_fields.proofs.AnswerLemmas.{along, optional_word, optional_word_absent, optional_word_none}
 use Rattle.airbyte_message.proofs.trace_message.failure_of.Goals as goal
 
 pub returns-in-Some-Some : goal.returns-in-Some-Some

@@ -3,7 +3,7 @@ use Rattle.std.specs.Option.{option_copied}
 use Rattle.json_fields.specs.Fields.{HasField, line_depth}
 use Rattle.airbyte_message.specs.Parts.{HasDescriptor}
 use Rattle.airbyte_message.specs.Traces.{IsTold}
-use Rattle.airbyte_message.proofs.AnswerLemmas.{along, along_only, uncut}
+use Rattle.json_fields.proofs.AnswerLemmas.{along, along_only, uncut}
 use Rattle.airbyte_message.proofs.TraceLemmas.{IsStatusOf, status_answer, status_absent, status_uncut, status_no_stream, status_no_word}
 use Rattle.airbyte_message.specs.declared.message.TraceMsg.TheVariants as trace
 use Rattle.airbyte_message.specs.declared.trace_message.TraceType.TheVariants as types

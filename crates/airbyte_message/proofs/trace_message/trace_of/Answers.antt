@@ -2,8 +2,8 @@ use Rattle.std.proofs.Common.{ap, codes}
 use Rattle.std.specs.Option.{option_copied, option_map}
 use Rattle.std.proofs.lemmas.Result.{IfOk-weaker}
 use Rattle.json_fields.specs.Fields.{line_depth}
-use Rattle.airbyte_message.specs.Parts.{HasOptionalNumber}
-use Rattle.airbyte_message.proofs.AnswerLemmas.{along, uncut}
+use Rattle.json_fields.specs.Parts.{HasOptionalNumber}
+use Rattle.json_fields.proofs.AnswerLemmas.{along, uncut}
 use Rattle.airbyte_message.proofs.TraceLemmas.{IsTypeOf, trace_answer, trace_uncut, trace_untyped, trace_no_number}
 use Rattle.airbyte_message.proofs.trace_message.trace_of.Goals as goal
 

@@ -1,7 +1,7 @@
 use Rattle.std.proofs.Common.{codes}
 use Rattle.json_fields.specs.Fields.{HasText}
 use Rattle.airbyte_message.specs.Words.{trace_text}
-use Rattle.airbyte_message.proofs.AnswerLemmas.{along, word_text, word_absent}
+use Rattle.json_fields.proofs.AnswerLemmas.{along, word_text, word_absent}
 use Rattle.airbyte_message.proofs.trace_message.type_of.Goals as goal
 
 pub returns-in-Some : goal.returns-in-Some

@@ -1,4 +1,4 @@
-use Rattle.std.proofs.Common.{ap, Err, ◌<◌, ◌≤◌, arith}
+use Rattle.std.proofs.Common.{ap, Err, ◌<◌, arith}
 use Rattle.json_fields.proofs.fields.cut.Goals as goal
 
 pub returns-in-Ok-clause-cut : goal.returns-in-Ok-clause-cut
@@ -19,6 +19,3 @@ pub returns-in-Err-TooDeep-clause-none : goal.returns-in-Err-TooDeep-clause-none
 returns-in-Err-TooDeep-clause-none c =
     let deeper = c.in-Err-TooDeep.ensures.too_deep (ap (λ e. Err e) c.in-Err-TooDeep.field-0-is) in
     λ members are. let beyond : c.args.limit < are.deep = deeper.deeper are.deep members are.object in absurd (omega (arith, are.within))
-
-pub returns-in-Err-NotArray-clause-none : goal.returns-in-Err-NotArray-clause-none
-returns-in-Err-NotArray-clause-none c = absurd (c.in-Err-NotArray.ensures.never_not_array (ap (λ e. Err e) c.in-Err-NotArray.field-0-is))

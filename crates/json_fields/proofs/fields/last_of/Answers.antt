@@ -1,4 +1,4 @@
-use Rattle.std.proofs.Common.{◌≡◌, ◌≤◌, ◌+◌, ◌<◌, refl, sym, ◌∙◌, ap, subst, take, length, List, ℕ, Option, Some, None, Bor, true, false, IfSome, arith}
+use Rattle.std.proofs.Common.{◌≡◌, ◌+◌, ◌<◌, sym, ◌∙◌, ap, subst, take, length, List, ℕ, Option, Some, Bor, true, false, IfSome}
 use Rattle.std.proofs.lemmas.List.{take_all}
 use Rattle.std.specs.Option.{option_copied}
 use Rattle.json_span.specs.Members.{IsValue}

@@ -1,4 +1,4 @@
-use Rattle.std.proofs.Common.{List, ℕ, Option, Some, None, sym, subst, ap, ◌∙◌}
+use Rattle.std.proofs.Common.{List, ℕ, Option, subst, ap}
 use Rattle.std.proofs.lemmas.Result.{IfOk-weaker}
 use Rattle.std.specs.Option.{option_copied}
 use Rattle.json_fields.specs.Answer.{IsAnswer}

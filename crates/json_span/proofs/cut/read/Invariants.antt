@@ -1,9 +1,9 @@
-use Rattle.std.proofs.Common.{length, ◌-◌, ◌≡◌, ◌≤◌, drop}
-use Rattle.json_span.specs.Machine.{run, read_whole}
+use Rattle.std.proofs.Common.{length, ◌-◌, ◌≡◌, ◌≤◌}
+use Rattle.json_span.specs.Machine.{read_to, initial}
 use Rattle.json_span.proofs.cut.read.Given as goal
 
 abbrev pub invariant-loop-at : goal.invariant-loop-at
-invariant-loop-at l = (l.at ≤ length l.text) × (run (length l.text) l.machine (drop l.at l.text) ≡ read_whole l.fn.frame l.text)
+invariant-loop-at l = (l.at ≤ length l.text) × (l.machine ≡ read_to l.text (initial l.fn.frame) 0 l.at)
 
 abbrev pub decreases-loop-at : goal.decreases-loop-at
 decreases-loop-at l = length l.text - l.at

@@ -1,6 +1,5 @@
-use Rattle.std.proofs.Common.{drop, arith}
-use Rattle.json_span.proofs.Run.{plain_more}
+use Rattle.json_span.proofs.Run.{plain_run}
 use Rattle.json_span.proofs.skip.skip_plain.Goals as goal
 
-pub loop-at-preserved : goal.loop-at-preserved
-loop-at-preserved c = (omega arith, omega arith, plain_more (drop c.args.from c.args.text.now) c.args.text.now c.loop-at.at c.loop-at.invariant.2 c.loop-at-test.true c.if-text-at-ge32.true c.if-text-at-ne34.true c.if-text-at-ne92.true)
+pub returns-clause-skipped : goal.returns-clause-skipped
+returns-clause-skipped c = plain_run c.args.text.now c.args.from c.plain_end.result c.plain_end.ensures.value

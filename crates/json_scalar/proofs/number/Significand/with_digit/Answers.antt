@@ -13,10 +13,10 @@ returns-in_err-core-clause-long c =
     (long_last (number_of c.args.self) c.args.digit (omega arith) c.requires.digit
     (product_large c.args.self.core c.args.self.zeros c.args.digit (c.in_err-core.ensures {u = tt})))
 
-pub returns-then-core-ge-LIMIT-clause-long : goal.returns-then-core-ge-LIMIT-clause-long
-returns-then-core-ge-LIMIT-clause-long c =
+pub returns-then-core-ge-DECIMAL_LIMIT-clause-long : goal.returns-then-core-ge-DECIMAL_LIMIT-clause-long
+returns-then-core-ge-DECIMAL_LIMIT-clause-long c =
     long_last (number_of c.args.self) c.args.digit (omega arith) c.requires.digit
-    (sum_large c.args.self.core c.args.self.zeros c.args.digit c.in_ok-core.field-0 (c.in_ok-core.ensures {u = tt}).1 c.if-core-ge-LIMIT.true)
+    (sum_large c.args.self.core c.args.self.zeros c.args.digit c.in_ok-core.field-0 (c.in_ok-core.ensures {u = tt}).1 c.if-core-ge-DECIMAL_LIMIT.true)
 
 pub returns-clause-value : goal.returns-clause-value
 returns-clause-value c =
@@ -25,4 +25,4 @@ returns-clause-value c =
 pub returns-clause-trimmed : goal.returns-clause-trimmed
 returns-clause-trimmed c =
     let is = ap (λ k. k + c.args.digit) ((c.in_ok-core.ensures {u = tt}).1 ∙ times_ten c.args.self.core c.args.self.zeros) in
-    subst IsTrimmed (sym is) (trimmed_last (number_of c.args.self) c.args.digit (omega arith) c.requires.digit (let b = c.if-core-ge-LIMIT.false in omega (arith, is)))
+    subst IsTrimmed (sym is) (trimmed_last (number_of c.args.self) c.args.digit (omega arith) c.requires.digit (let b = c.if-core-ge-DECIMAL_LIMIT.false in omega (arith, is)))

@@ -1,0 +1,4 @@
+pub mod KindLemmas
+pub mod ValueLemmas
+pub mod WholeLemmas
+pub mod NumberLemmas

@@ -1,0 +1,5 @@
+use Rattle.column_types.proofs.ValueLemmas.{IsWalked}
+use Rattle.column_types.proofs.value.walk.Given as goal
+
+abbrev pub invariant-loop-name : goal.invariant-loop-name
+invariant-loop-name l = IsWalked l.text l.names l.name-index l.at

@@ -1,0 +1,10 @@
+use Rattle.std.proofs.Common.{◌≡◌, ◌+◌, ◌-◌, ◌≤◌, length, drop}
+use Rattle.std.specs.List.{prefix_len}
+use Rattle.json_span.specs.Plain.{is_plain_byte}
+use Rattle.json_span.proofs.skip.plain_end.Given as goal
+
+abbrev pub invariant-loop-at : goal.invariant-loop-at
+invariant-loop-at l = (l.from + prefix_len is_plain_byte (drop l.from l.text) ≡ l.at + prefix_len is_plain_byte (drop l.at l.text)) × (l.at ≤ length l.text)
+
+abbrev pub decreases-loop-at : goal.decreases-loop-at
+decreases-loop-at l = length l.text - l.at

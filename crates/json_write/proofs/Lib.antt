@@ -1,0 +1,12 @@
+pub mod Depths
+pub mod Fields
+pub mod Fronts
+pub mod HeldValues
+pub mod Lists
+pub mod Meanings
+pub mod Names
+pub mod Numerals
+pub mod Strings
+pub mod Texts
+pub mod Trees
+pub mod Values

@@ -1,0 +1,4 @@
+pub mod Fronts
+pub mod Values
+pub mod Objects
+pub mod Laws
