@@ -64,8 +64,8 @@ module _ (rows : List RawRow) (held row : RawRow) (among : IsWinnerAmong rows he
         rows_are = rows_more ∙ ap (λ (rs : List RawRow). rs ++ row ∷ []) (sym (map-append candidate_row among.before (among.winner ∷ among.behind)));
         cursors = all_both HasCursor (among.before ++ among.winner ∷ among.behind) (next ∷ []) among.cursors (cursor, tt);
         first = all_both (IsLess next) among.before (among.winner ∷ among.behind)
-          (all_map (IsLess among.winner) (IsLess next) among.before (λ c less. below_next c among.winner next (less_not_more (rank c among.winner) less) more) among.first)
-          (held_below among.winner next more, all_map (IsNotMore among.winner) (IsLess next) among.behind (λ c not_more. below_next c among.winner next not_more more) among.unexceeded);
+            (all_map (IsLess among.winner) (IsLess next) among.before (λ c less. below_next c among.winner next (less_not_more (rank c among.winner) less) more) among.first)
+            (held_below among.winner next more, all_map (IsNotMore among.winner) (IsLess next) among.behind (λ c not_more. below_next c among.winner next not_more more) among.unexceeded);
         unexceeded = tt;
       }
 

@@ -113,5 +113,5 @@ found_key [] key winner e = cc
 found_key (first ∷ winners) key winner e = by_bool (bytes_eq first.key key)
     (λ t. let read : winner_in (first ∷ winners) key ≡ Some first = rw t refl in let same : first ≡ winner = some_is (sym read ∙ e) in ap (λ (r : RawRow). r.key) (sym same) ∙ key_is first.key key t)
     (λ f. let read : winner_in (first ∷ winners) key ≡ winner_in winners key = rw f refl in found_key winners key winner (sym read ∙ e)) where
-  some_is : {x y : RawRow} → Some x ≡ Some y → x ≡ y
-  some_is q = cc
+      some_is : {x y : RawRow} → Some x ≡ Some y → x ≡ y
+      some_is q = cc

@@ -99,9 +99,9 @@ pub reads_counted : (rows : List RawRow) (row : RawRow) (best : List RawRow) →
 reads_counted rows row best knows =
     let more : length (keys_of (rows ++ row ∷ [])) ≡ length (keys_of rows) + (if is_key_in (keys_of rows) row.key then 0 else 1) = ap length (keys_more rows row) ∙ count_more (keys_of rows) row in
     sym (more ∙ ap (λ (n : ℕ). length (keys_of rows) + n) (ap (λ (b : Bool). let n : ℕ = if b then 0 else 1 in n) (knows row.key) ∙ by_found (winner_in best row.key))) where
-  by_found : (found : Option RawRow) → (if is_some found then 0 else 1) ≡ reads_for found
-  by_found None = refl
-  by_found (Some winner) = refl
+      by_found : (found : Option RawRow) → (if is_some found then 0 else 1) ≡ reads_for found
+      by_found None = refl
+      by_found (Some winner) = refl
 
 -- the row does not exceed the held one, which stays
 pub held_stays : (row held : RawRow) (answer : Bool) (old : List RawRow) → Exceeds row held answer → answer ≡ false → winner_in old row.key ≡ Some held → TakesOver row old old

@@ -50,7 +50,12 @@ impl From<Fault> for MergeFault {
 }
 
 // The winner of a key on the side, where the store gives one of that key.
-fn winner_of_key<D: Dock>(alloc: Global, dock: &mut D, stream: StreamNo, key: &[u8]) -> Result<Option<RawRow>, Fault>
+fn winner_of_key<D: Dock>(
+    alloc: Global,
+    dock: &mut D,
+    stream: StreamNo,
+    key: &[u8],
+) -> Result<Option<RawRow>, Fault>
     requires { stream < length (D.seen dock.old).face.side_marks }
     ensures only { ReadsOnly (D.seen dock.old) (D.seen dock.new) }
     ensures read { ReadAtMost 1 (D.seen dock.old).rows_read (D.seen dock.new).rows_read }
@@ -71,7 +76,13 @@ fn winner_of_key<D: Dock>(alloc: Global, dock: &mut D, stream: StreamNo, key: &[
 }
 
 // Takes in one row of the page; the side's winner is read for the first row of a key.
-fn take_row<D: Dock>(alloc: Global, dock: &mut D, stream: StreamNo, best: &mut Winners, row: &RawRow) -> Result<(), Fault>
+fn take_row<D: Dock>(
+    alloc: Global,
+    dock: &mut D,
+    stream: StreamNo,
+    best: &mut Winners,
+    row: &RawRow,
+) -> Result<(), Fault>
     requires { stream < length (D.seen dock.old).face.side_marks }
     ensures only { ReadsOnly (D.seen dock.old) (D.seen dock.new) }
     ensures read { ReadAtMost (reads_for (winner_in best.old row.now.key)) (D.seen dock.old).rows_read (D.seen dock.new).rows_read }
@@ -87,7 +98,12 @@ fn take_row<D: Dock>(alloc: Global, dock: &mut D, stream: StreamNo, best: &mut W
 }
 
 // The winners of the keys of a page, those of the side before taken in.
-fn winners_of_page<D: Dock>(alloc: Global, dock: &mut D, stream: StreamNo, rows: &[RawRow]) -> Result<RawRowList, Fault>
+fn winners_of_page<D: Dock>(
+    alloc: Global,
+    dock: &mut D,
+    stream: StreamNo,
+    rows: &[RawRow],
+) -> Result<RawRowList, Fault>
     requires { stream < length (D.seen dock.old).face.side_marks }
     ensures only { ReadsOnly (D.seen dock.old) (D.seen dock.new) }
     ensures read { ReadAtMost (key_count rows.now) (D.seen dock.old).rows_read (D.seen dock.new).rows_read }
@@ -105,7 +121,12 @@ fn winners_of_page<D: Dock>(alloc: Global, dock: &mut D, stream: StreamNo, rows:
 /// each of their keys, and puts the winners of both into the store.
 ///
 /// `Done` comes exactly where no such row is left.
-pub fn merge_page<D: Dock>(alloc: Global, dock: &mut D, stream: StreamNo, page: u32) -> Result<Merged, MergeFault>
+pub fn merge_page<D: Dock>(
+    alloc: Global,
+    dock: &mut D,
+    stream: StreamNo,
+    page: u32,
+) -> Result<Merged, MergeFault>
     requires known { stream < length (D.seen dock.old).face.side_marks }
     requires some { 0 < page }
     ensures grew { DockGrew (D.seen dock.old) (D.seen dock.new) }

@@ -18,7 +18,12 @@ fn put(alloc: Global, best: &mut Winners, row: RawRow) -> Result<(), NoMemory>
 }
 
 /// Takes in a row of a key that has no best yet, after the row that was its winner before, where there is one.
-pub fn take_after(alloc: Global, best: &mut Winners, held: Option<RawRow>, row: &RawRow) -> Result<(), NoMemory>
+pub fn take_after(
+    alloc: Global,
+    best: &mut Winners,
+    held: Option<RawRow>,
+    row: &RawRow,
+) -> Result<(), NoMemory>
     requires { IfSome held (λ held. held.key ≡ row.now.key) }
     ensures { OnOk result (TakesRow held row.now best.old best.new) }
 {

@@ -29,8 +29,8 @@ dock_grew_trans a b c p q = record {
   more = p.more ++ q.more;
   grew = told_both p.more q.more a.trace b.trace c.trace p.grew q.grew;
   timed = all_both (IsToldBetween a.counts c.counts) p.more q.more
-    (all_map (IsToldBetween a.counts b.counts) (IsToldBetween a.counts c.counts) p.more (between_wider a.counts a.counts b.counts c.counts (none_fell_refl a.counts) q.counts) p.timed)
-    (all_map (IsToldBetween b.counts c.counts) (IsToldBetween a.counts c.counts) q.more (between_wider a.counts b.counts c.counts c.counts p.counts (none_fell_refl c.counts)) q.timed);
+      (all_map (IsToldBetween a.counts b.counts) (IsToldBetween a.counts c.counts) p.more (between_wider a.counts a.counts b.counts c.counts (none_fell_refl a.counts) q.counts) p.timed)
+      (all_map (IsToldBetween b.counts c.counts) (IsToldBetween a.counts c.counts) q.more (between_wider a.counts b.counts c.counts c.counts p.counts (none_fell_refl c.counts)) q.timed);
 }
 
 -- What moves through the hand

@@ -109,7 +109,12 @@ pub trait Dock {
         ensures counts { (seen self.new).counts ≡ record ((seen self.old).counts) { write_faults = (seen self.new).counts.write_faults } };
 
     /// The next rows of a stream that its side has not merged, at most `most` of them.
-    fn read_unmerged(&mut self, alloc: Global, stream: StreamNo, most: u32) -> Result<Unmerged, Fault>
+    fn read_unmerged(
+        &mut self,
+        alloc: Global,
+        stream: StreamNo,
+        most: u32,
+    ) -> Result<Unmerged, Fault>
         requires known { stream < length (seen self.old).face.side_marks }
         requires some { 0 < most }
         ensures grew { DockGrew (seen self.old) (seen self.new) }
@@ -122,7 +127,12 @@ pub trait Dock {
         ensures counts { (seen self.new).counts ≡ record ((seen self.old).counts) { store_faults = (seen self.new).counts.store_faults } };
 
     /// The winner of a key on the side that the load uses of the stream.
-    fn read_winner(&mut self, alloc: Global, stream: StreamNo, key: &[u8]) -> Result<Option<RawRow>, Fault>
+    fn read_winner(
+        &mut self,
+        alloc: Global,
+        stream: StreamNo,
+        key: &[u8],
+    ) -> Result<Option<RawRow>, Fault>
         requires { stream < length (seen self.old).face.side_marks }
         ensures grew { DockGrew (seen self.old) (seen self.new) }
         ensures winner { IfOk result (λ winner. IfSome (tables (seen self.old)) (λ store. winner ≡ winner_of store stream key.now)) }

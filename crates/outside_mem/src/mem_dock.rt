@@ -313,7 +313,12 @@ impl Dock for MemDock {
     }
 
     #[tactic(auto, using(crate::proofs::DockLemmas::grew_same))]
-    fn read_unmerged(&mut self, alloc: Global, stream: StreamNo, most: u32) -> Result<Unmerged, Fault> {
+    fn read_unmerged(
+        &mut self,
+        alloc: Global,
+        stream: StreamNo,
+        most: u32,
+    ) -> Result<Unmerged, Fault> {
         if self.calls.is_failing() {
             return Err(self.fail_store());
         }
@@ -323,7 +328,12 @@ impl Dock for MemDock {
     }
 
     #[tactic(auto, using(crate::proofs::DockLemmas::grew_same))]
-    fn read_winner(&mut self, alloc: Global, stream: StreamNo, key: &[u8]) -> Result<Option<RawRow>, Fault> {
+    fn read_winner(
+        &mut self,
+        alloc: Global,
+        stream: StreamNo,
+        key: &[u8],
+    ) -> Result<Option<RawRow>, Fault> {
         if self.calls.is_failing() {
             return Err(self.fail_store());
         }

@@ -7,8 +7,8 @@ ghost use Rattle.outside_mem.specs.MemDock.{told, IsPlain, trace_tables, ended};
 
 use crate::dock_trace::DockTrace;
 use outside::{
-    Copies, DockTally, Event, EventList, Load, LoadPlan, MarksList, NoMemory, RawRow,
-    RawRowList, StreamIdList, StreamNo, Tables, Unmerged,
+    Copies, DockTally, Event, EventList, Load, LoadPlan, MarksList, NoMemory, RawRow, RawRowList,
+    StreamIdList, StreamNo, Tables, Unmerged,
 };
 use std::alloc::Global;
 use std::marker::Model;
@@ -87,7 +87,13 @@ impl MemStore {
 
     /// Opens a load, whose number is one above that of the last.
     #[tactic(auto, using(crate::proofs::StoreLemmas::store_opened, crate::proofs::TraceLemmas::take_back))]
-    pub fn open(&mut self, alloc: Global, plan: &LoadPlan, moment: u64, counts: DockTally) -> Result<Load, NoMemory>
+    pub fn open(
+        &mut self,
+        alloc: Global,
+        plan: &LoadPlan,
+        moment: u64,
+        counts: DockTally,
+    ) -> Result<Load, NoMemory>
         requires { HasOwnIds plan.now }
         ensures ok { OnOk result (self.new ≡ self.old ++ told (Event.Opened ((trace_tables self.old).load + 1) moment plan.now) counts ∷ []) }
         ensures streams { OnOk result (HasStreams plan.now (side_marks_of (trace_tables self.new))) }
@@ -120,7 +126,13 @@ impl MemStore {
 
     /// Commits rows of a stream.
     #[tactic(auto, using(crate::proofs::StoreLemmas::store_committed, crate::proofs::TraceLemmas::take_back))]
-    pub fn commit(&mut self, alloc: Global, stream: StreamNo, rows: &RawRowList, counts: DockTally) -> Result<(), NoMemory>
+    pub fn commit(
+        &mut self,
+        alloc: Global,
+        stream: StreamNo,
+        rows: &RawRowList,
+        counts: DockTally,
+    ) -> Result<(), NoMemory>
         ensures ok { OnOk result (self.new ≡ self.old ++ told (Event.Committed stream rows.now) counts ∷ []) }
         ensures err { OnErr result (self.new ≡ self.old) }
     {
@@ -141,7 +153,14 @@ impl MemStore {
 
     /// Merges winners of a stream.
     #[tactic(auto, using(crate::proofs::StoreLemmas::store_merged, crate::proofs::TraceLemmas::take_back))]
-    pub fn merge(&mut self, alloc: Global, stream: StreamNo, winners: &RawRowList, mark: u64, counts: DockTally) -> Result<(), NoMemory>
+    pub fn merge(
+        &mut self,
+        alloc: Global,
+        stream: StreamNo,
+        winners: &RawRowList,
+        mark: u64,
+        counts: DockTally,
+    ) -> Result<(), NoMemory>
         requires { IsPlace mark }
         ensures ok { OnOk result (self.new ≡ self.old ++ told (Event.Merged stream winners.now mark) counts ∷ []) }
         ensures marks { OnOk result (stream < length (side_marks_of (trace_tables self.old)) → side_marks_of (trace_tables self.new) ≡ slice_set (side_marks_of (trace_tables self.old)) stream mark) }
@@ -166,7 +185,12 @@ impl MemStore {
 
     /// Shows a stream of the load.
     #[tactic(auto, using(crate::proofs::StoreLemmas::store_showing, crate::proofs::TraceLemmas::take_back))]
-    pub fn show(&mut self, alloc: Global, stream: StreamNo, counts: DockTally) -> Result<(), NoMemory>
+    pub fn show(
+        &mut self,
+        alloc: Global,
+        stream: StreamNo,
+        counts: DockTally,
+    ) -> Result<(), NoMemory>
         ensures ok { OnOk result (self.new ≡ self.old ++ told (shown_event (trace_tables self.old) stream) counts ∷ []) }
         ensures marks { OnOk result (stream < length (side_marks_of (trace_tables self.old)) → side_marks_of (trace_tables self.new) ≡ side_marks_of (trace_tables self.old)) }
         ensures err { OnErr result (self.new ≡ self.old) }
@@ -201,7 +225,12 @@ impl MemStore {
     }
 
     /// The winner of a key on the side of a stream.
-    pub fn winner(&self, alloc: Global, stream: StreamNo, key: &[u8]) -> Result<Option<RawRow>, NoMemory>
+    pub fn winner(
+        &self,
+        alloc: Global,
+        stream: StreamNo,
+        key: &[u8],
+    ) -> Result<Option<RawRow>, NoMemory>
         ensures { IfOk result (λ winner. winner ≡ winner_of (trace_tables self.now) stream key.now) }
     {
         raw_tables::read_winner(alloc, &self.tables, stream, key)

@@ -110,7 +110,12 @@ pub fn add_rows(table: &mut StreamTable, rows: Vec<PlacedRow>) -> Result<(), NoM
     table.rows.append(rows)
 }
 
-fn merge_side(alloc: Global, side: &mut TableSide, winners: RawRowList, mark: u64) -> Result<(), NoMemory>
+fn merge_side(
+    alloc: Global,
+    side: &mut TableSide,
+    winners: RawRowList,
+    mark: u64,
+) -> Result<(), NoMemory>
     ensures ok { OnOk result (side.new ≡ merged_side winners mark side.old) }
     ensures err { OnErr result (side.new ≡ side.old) }
 {

@@ -8,8 +8,8 @@ use crate::change::FIRST_MARKS;
 use crate::find::index_of;
 use generation_rules::floor;
 use outside::{
-    Copies, Event, Marks, MarksList, NoMemory, PlacedRow, RawRow, RawRowList, StreamId,
-    StreamNo, StreamPlan, StreamTable, TableSide, Tables, Unmerged,
+    Copies, Event, Marks, MarksList, NoMemory, PlacedRow, RawRow, RawRowList, StreamId, StreamNo,
+    StreamPlan, StreamTable, TableSide, Tables, Unmerged,
 };
 use std::alloc::Global;
 
@@ -71,7 +71,12 @@ fn side<'a>(plan: &StreamPlan, table: &'a StreamTable) -> &'a TableSide
 }
 
 /// The next rows of a table that the load's side has not merged, at most so many.
-pub fn page(alloc: Global, plan: &StreamPlan, table: &StreamTable, most: usize) -> Result<Unmerged, NoMemory>
+pub fn page(
+    alloc: Global,
+    plan: &StreamPlan,
+    table: &StreamTable,
+    most: usize,
+) -> Result<Unmerged, NoMemory>
     ensures { IfOk result (λ page. page ≡ page_in plan.now table.now most) }
 {
     let from = side(plan, table).mark;
@@ -98,7 +103,12 @@ pub fn page(alloc: Global, plan: &StreamPlan, table: &StreamTable, most: usize) 
 }
 
 /// The next rows of a stream of the load that its side has not merged, at most so many.
-pub fn read_page(alloc: Global, tables: &Tables, stream: StreamNo, most: usize) -> Result<Unmerged, NoMemory>
+pub fn read_page(
+    alloc: Global,
+    tables: &Tables,
+    stream: StreamNo,
+    most: usize,
+) -> Result<Unmerged, NoMemory>
     ensures { IfOk result (λ page. page ≡ page_of tables.now stream most) }
 {
     if let Some(plan) = tables.plan.as_slice().get(stream as usize) {
@@ -114,7 +124,12 @@ pub fn read_page(alloc: Global, tables: &Tables, stream: StreamNo, most: usize) 
 }
 
 /// The winner of a key on the side that the load uses of a stream. It is found in logarithmic time.
-pub fn read_winner(alloc: Global, tables: &Tables, stream: StreamNo, key: &[u8]) -> Result<Option<RawRow>, NoMemory>
+pub fn read_winner(
+    alloc: Global,
+    tables: &Tables,
+    stream: StreamNo,
+    key: &[u8],
+) -> Result<Option<RawRow>, NoMemory>
     ensures { IfOk result (λ winner. winner ≡ winner_of tables.now stream key.now) }
 {
     if let Some(plan) = tables.plan.as_slice().get(stream as usize) {

@@ -33,7 +33,12 @@ fn in_order(alloc: Global, table: &StreamTable) -> Result<RawRowList, NoMemory>
 
 /// What a reader sees of a stream: of a deduplicated one the winners of the shown side, in order of their keys, and of
 /// every other the rows between floor and top, in order of load and sequence.
-pub fn visible(alloc: Global, tables: &Tables, id: &StreamId, dedup: bool) -> Result<RawRowList, NoMemory>
+pub fn visible(
+    alloc: Global,
+    tables: &Tables,
+    id: &StreamId,
+    dedup: bool,
+) -> Result<RawRowList, NoMemory>
     ensures { IfOk result (IsVisible dedup (table_in tables.now.streams id.now)) }
 {
     match index_of(tables.streams.as_slice(), id) {

@@ -20,7 +20,11 @@ fn stand_in(alloc: Global) -> StreamTable {
 }
 
 // Opens a stream in a load.
-fn open_stream(alloc: Global, tables: &mut StreamTableList, plan: &StreamPlan) -> Result<(), NoMemory>
+fn open_stream(
+    alloc: Global,
+    tables: &mut StreamTableList,
+    plan: &StreamPlan,
+) -> Result<(), NoMemory>
     ensures ok { OnOk result (tables.new ≡ opened_stream tables.old plan.now) }
     ensures err { OnErr result (tables.new ≡ tables.old) }
 {
@@ -38,7 +42,11 @@ fn open_stream(alloc: Global, tables: &mut StreamTableList, plan: &StreamPlan) -
 }
 
 // Opens all streams of a load. On want of memory some of them may be open.
-fn open_streams(alloc: Global, tables: &mut StreamTableList, plan: &[StreamPlan]) -> Result<(), NoMemory>
+fn open_streams(
+    alloc: Global,
+    tables: &mut StreamTableList,
+    plan: &[StreamPlan],
+) -> Result<(), NoMemory>
     ensures { OnOk result (tables.new ≡ fold opened_stream tables.old plan.now) }
 {
     for stream in plan {
@@ -75,7 +83,12 @@ fn place_rows(alloc: Global, before: u64, rows: &[RawRow]) -> Result<Vec<PlacedR
 }
 
 // Puts placed rows behind those of a stream.
-fn commit_rows(alloc: Global, tables: &mut StreamTableList, id: &StreamId, rows: Vec<PlacedRow>) -> Result<(), NoMemory>
+fn commit_rows(
+    alloc: Global,
+    tables: &mut StreamTableList,
+    id: &StreamId,
+    rows: Vec<PlacedRow>,
+) -> Result<(), NoMemory>
     ensures ok { OnOk result (tables.new ≡ changed (committed_table rows.items) id.now tables.old) }
     ensures err { OnErr result (tables.new ≡ tables.old) }
 {
@@ -121,7 +134,11 @@ fn merge_stream(
 }
 
 // Shows a stream.
-fn show_stream(alloc: Global, tables: &mut StreamTableList, plan: &StreamPlan) -> Result<(), NoMemory>
+fn show_stream(
+    alloc: Global,
+    tables: &mut StreamTableList,
+    plan: &StreamPlan,
+) -> Result<(), NoMemory>
     ensures ok { OnOk result (tables.new ≡ changed (shown_table plan.now) plan.now.id tables.old) }
     ensures err { OnErr result (tables.new ≡ tables.old) }
 {
@@ -139,7 +156,12 @@ fn show_stream(alloc: Global, tables: &mut StreamTableList, plan: &StreamPlan) -
 }
 
 /// Opens a load. On want of memory some of its streams may be open.
-pub fn open_load(alloc: Global, tables: &mut Tables, load: u64, plan: &LoadPlan) -> Result<(), NoMemory>
+pub fn open_load(
+    alloc: Global,
+    tables: &mut Tables,
+    load: u64,
+    plan: &LoadPlan,
+) -> Result<(), NoMemory>
     ensures { OnOk result (tables.new ≡ tables_opened load plan.now tables.old) }
 {
     let kept = plan.copy(alloc)?;
@@ -150,7 +172,12 @@ pub fn open_load(alloc: Global, tables: &mut Tables, load: u64, plan: &LoadPlan)
 }
 
 /// Commits rows of a stream: all of them, or none. It takes constant time beside the rows' own.
-pub fn commit(alloc: Global, tables: &mut Tables, stream: StreamNo, rows: &RawRowList) -> Result<(), NoMemory>
+pub fn commit(
+    alloc: Global,
+    tables: &mut Tables,
+    stream: StreamNo,
+    rows: &RawRowList,
+) -> Result<(), NoMemory>
     ensures ok { OnOk result (tables.new ≡ tables_committed (plan_at tables.old stream) rows.now tables.old) }
     ensures places { OnOk result (tables.old.places < 2 ^ 63 → tables.new.places < 2 ^ 63) }
     ensures err { OnErr result (tables.new ≡ tables.old) }
@@ -165,7 +192,13 @@ pub fn commit(alloc: Global, tables: &mut Tables, stream: StreamNo, rows: &RawRo
 }
 
 /// Merges winners of a stream: all of them, or none. It takes logarithmic time in the number of winners for each.
-pub fn merge(alloc: Global, tables: &mut Tables, stream: StreamNo, winners: RawRowList, mark: u64) -> Result<(), NoMemory>
+pub fn merge(
+    alloc: Global,
+    tables: &mut Tables,
+    stream: StreamNo,
+    winners: RawRowList,
+    mark: u64,
+) -> Result<(), NoMemory>
     ensures ok { OnOk result (tables.new ≡ tables_merged (plan_at tables.old stream) winners mark tables.old) }
     ensures err { OnErr result (tables.new ≡ tables.old) }
 {

@@ -16,7 +16,12 @@ pub fn stream_a(alloc: Global) -> Result<StreamId, NoMemory> {
 }
 
 /// A plan of the stream `a` alone.
-pub fn plan_of(alloc: Global, generation: u64, minimum: u64, hidden: bool) -> Result<LoadPlan, NoMemory>
+pub fn plan_of(
+    alloc: Global,
+    generation: u64,
+    minimum: u64,
+    hidden: bool,
+) -> Result<LoadPlan, NoMemory>
     ensures own { IfOk result (λ plan. HasOwnIds plan) }
     ensures one { IfOk result (λ plan. length plan ≡ 1) }
 {
