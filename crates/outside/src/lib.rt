@@ -18,8 +18,9 @@ mod winner_map;
 mod winners;
 
 pub use basics::{
-    Boxed, Bytes, BytesList, Copies, FailList, Name, NoMemory, Path, PathList, RoomySequence,
-    Sequence, StreamId, StreamNo,
+    Boxed, Bytes, BytesList, Copies, DEEPEST_JSON, DEEPEST_STATE, FailList, GREATEST_GENERATION,
+    LONGEST_DEST_LINE, LONGEST_LINE, LONGEST_NAME, MOST_STREAMS, Name, NoMemory, Path, PathList,
+    RoomySequence, Sequence, StreamId, StreamNo,
 };
 pub use byte_streams::{Sink, Source};
 pub use desk::Desk;
