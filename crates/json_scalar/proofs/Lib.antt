@@ -2,9 +2,9 @@ mod Options
 mod Powers
 mod Spellings
 mod Cuts
-mod Values
-mod Contents
+pub mod Values
+pub mod Contents
 mod Lexing
-mod Plain
+pub mod Plain
 mod Decoded
 mod Decimals
