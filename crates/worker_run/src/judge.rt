@@ -1,6 +1,6 @@
 // Which lines are taken.
 ghost use Rattle.std.specs.Prelude.{◌≡◌, ◌≤◌, IfOk, IsTrue, ◌↔◌};
-ghost use Rattle.worker_run.specs.Rounds.{IsOfStream, IsTakenState, longest_line};
+ghost use Rattle.worker_run.specs.TakenLines.{IsOfStream, IsTakenState, longest_line};
 
 use crate::lines::{error_line, log_line, source_line};
 use airbyte_message::{

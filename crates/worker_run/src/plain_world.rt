@@ -4,8 +4,8 @@ ghost use Rattle.text_lines.specs.Lines.{lines_of};
 ghost use Rattle.airbyte_message.specs.Messages.{IsStateLine};
 ghost use Rattle.worker_run.specs.World.{begun, record_events as record_events_of};
 
+use crate::events::{closing_events, opening_events, other_events, record_events, state_events};
 use crate::judge::Judged;
-use crate::rounds::{closing_events, opening_events, other_events, record_events, state_events};
 use airbyte_message::{RecordMsg, StateMsg, echo_of};
 use outside::{Bytes, Event, EventList, Name, NoMemory};
 use std::alloc::Global;
@@ -85,7 +85,7 @@ impl PlainWorld {
     ghost use Rattle.worker_run.specs.Steps.{Steps, AddsState};
     ghost use Rattle.worker_run.specs.SafeSync.{IsSafeSync};
     ghost use Rattle.worker_run.specs.Output.{committed_lines};
-    ghost use Rattle.worker_run.specs.Rounds.{KindIsOf};
+    ghost use Rattle.worker_run.specs.TakenLines.{KindIsOf};
 
     /// A world that has taken no line: the load is opened, the empty store saved and the attempt started.
     pub fn new(alloc: Global, text: Bytes, stream: Name) -> Result<Self, NoMemory>
