@@ -1,5 +1,5 @@
 -- The echo of a state, put bit by bit; and a state's object is cut at the depth of a line.
-use Rattle.std.proofs.Common.{◌≡◌, ℕ, List, [], ◌++◌, flat_map, codes, refl, sym, ap, ◌∙◌, subst, arith, ◌<◌, ◌≤◌, append_assoc}
+use Rattle.std.proofs.Common.{◌≡◌, ℕ, List, [], ◌++◌, flat_map, codes, sym, ap, ◌∙◌, subst, arith, ◌≤◌, append_assoc}
 use Rattle.std.specs.Fmt.{decimal}
 use Rattle.json_span.specs.Members.{AreMembers}
 use Rattle.json_span.specs.declared.Member.{Member}

@@ -1,5 +1,5 @@
 -- Streams in the members of an object.
-use Rattle.std.proofs.Common.{◌≡◌, ℕ, List, Option, None, Some, ◌∙◌, ap, codes}
+use Rattle.std.proofs.Common.{ℕ, List, Option, None, ◌∙◌, ap, codes}
 use Rattle.json_span.specs.Members.{AreMembers}
 use Rattle.json_span.specs.declared.Member.{Member}
 use Rattle.basics.specs.declared.stream.StreamId.{StreamId}

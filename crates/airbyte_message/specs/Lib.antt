@@ -5,3 +5,5 @@ pub mod Traces
 pub mod Messages
 pub mod Echo
 pub mod Same
+pub mod Views
+pub mod Laws

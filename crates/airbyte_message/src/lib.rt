@@ -6,6 +6,7 @@ mod connection_message;
 mod control_message;
 mod echo;
 mod failure_type;
+mod laws;
 mod level;
 mod log_message;
 mod message;
@@ -18,14 +19,18 @@ mod state_message;
 mod stream_blob;
 mod stream_status;
 mod trace_message;
+mod view;
 
 pub use echo::echo_of;
 pub use failure_type::FailureType;
+pub use laws::one_message;
 pub use level::Level;
 pub use message::{
     CatalogMsg, ConnectionMsg, ControlMsg, LogMsg, Message, Raw, RecordMsg, SpecMsg, StateKind,
     StateMsg, StreamBlob, StreamBlobList, TraceMsg,
 };
-pub use read::read_message;
+pub use read::{MessageReader, MessageType, read_message};
 pub use same::{same_laws, same_state};
+pub use state_message::state_of;
 pub use stream_status::StreamStatus;
+pub use view::{MessageView, RecordView, StreamView, own_id, own_message, own_record};

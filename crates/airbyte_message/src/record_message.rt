@@ -1,36 +1,58 @@
 // The payload of a RECORD line.
-ghost use Rattle.std.specs.Prelude.{IfOk};
+ghost use Rattle.std.specs.Prelude.{IfOk, codes, option_map};
 ghost use Rattle.json_fields.specs.Answer.{IsAnswer};
+ghost use Rattle.json_fields.specs.Fields.{IsCut};
 ghost use Rattle.airbyte_message.specs.Messages.{IsRecord};
+ghost use Rattle.airbyte_message.specs.Parts.{IsStreamId};
+ghost use Rattle.airbyte_message.specs.Views.{id_at, record_at};
 
-use crate::RecordMsg;
-use crate::parts::{copied, stream_id_of};
-use basics::{Bytes, NoMemory};
-use json_fields::{count_field, cut, object_field, optional};
-use json_span::MAX_DEPTH;
+use crate::view::{RecordView, StreamView};
+use basics::NoMemory;
+use json_fields::{count_in, object_in, optional_in, optional_text_in, text_in};
+use json_span::Member;
 use std::alloc::Global;
 
-/// The record that a payload is.
-pub fn record_of(alloc: Global, text: &[u8]) -> Result<Option<RecordMsg>, NoMemory>
-    ensures { IfOk result (IsAnswer (IsRecord text.now)) }
+// The stream of a record: its name, and perhaps its namespace.
+fn stream_in<'a>(
+    alloc: Global,
+    text: &'a [u8],
+    members: &[Member],
+) -> Result<Option<StreamView<'a>>, NoMemory>
+    requires { IsCut text.now members.now }
+    ensures { IfOk result (λ found. IsAnswer (IsStreamId text.now (codes "stream")) (option_map id_at found)) }
 {
-    let Some(members) = cut(alloc, text, MAX_DEPTH)? else {
+    let Some(name) = text_in(alloc, text, members, "stream")? else {
         return Ok(None);
     };
-    let Some(id) = stream_id_of(alloc, text, &members, "stream")? else {
+    let Some(namespace) = optional_text_in(alloc, text, members, "namespace")? else {
         return Ok(None);
     };
-    let Some(body) = object_field(alloc, text, &members, "data")? else {
+    Ok(Some(StreamView { name, namespace }))
+}
+
+/// The record that a payload is, in place, where its members are known.
+pub fn record_in<'a>(
+    alloc: Global,
+    text: &'a [u8],
+    members: &[Member],
+) -> Result<Option<RecordView<'a>>, NoMemory>
+    requires { IsCut text.now members.now }
+    ensures { IfOk result (λ found. IsAnswer (IsRecord text.now) (option_map record_at found)) }
+{
+    let Some(id) = stream_in(alloc, text, members)? else {
         return Ok(None);
     };
-    let Some(emitted_at) = count_field(alloc, text, &members, "emitted_at")? else {
+    let Some(body) = object_in(alloc, text, members, "data")? else {
         return Ok(None);
     };
-    let meta = optional(alloc, text, &members, "meta")?;
-    Ok(Some(RecordMsg {
+    let Some(emitted_at) = count_in(alloc, text, members, "emitted_at")? else {
+        return Ok(None);
+    };
+    let meta = optional_in(alloc, text, members, "meta")?;
+    Ok(Some(RecordView {
         id,
-        body: Bytes::copy_of(alloc, body)?,
+        body,
         emitted_at,
-        meta: copied(alloc, meta)?,
+        meta,
     }))
 }

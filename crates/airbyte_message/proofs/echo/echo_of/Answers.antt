@@ -1,4 +1,4 @@
-use Rattle.std.proofs.Common.{ℕ, List, Option, ◌++◌, flat_map, IfSome, subst, ap, ◌∙◌}
+use Rattle.std.proofs.Common.{List, Option, ◌++◌, flat_map, IfSome, subst, ap, ◌∙◌}
 use Rattle.airbyte_message.specs.Echo.{member_text}
 use Rattle.json_span.specs.declared.Member.{Member}
 use Rattle.json_fields.specs.Fields.{IsCut, line_depth}

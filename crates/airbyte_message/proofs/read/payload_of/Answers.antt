@@ -3,16 +3,10 @@ use Rattle.json_fields.specs.Answer.{IsAnswer}
 use Rattle.airbyte_message.specs.Messages.{IsPayload}
 use Rattle.airbyte_message.specs.declared.read.MessageType.{MessageType}
 use Rattle.json_fields.proofs.AnswerLemmas.{along, mapped}
-use Rattle.airbyte_message.proofs.MessageLemmas.{record_payload, spec_payload, catalog_payload}
+use Rattle.airbyte_message.proofs.MessageLemmas.{spec_payload, catalog_payload}
 use Rattle.airbyte_message.specs.declared.read.MessageType.TheVariants as types
 use Rattle.airbyte_message.specs.declared.message.Message.TheVariants as message
 use Rattle.airbyte_message.proofs.read.payload_of.Goals as goal
-
-pub returns-in_ok-record_of-in-Rec : goal.returns-in_ok-record_of-in-Rec
-returns-in_ok-record_of-in-Rec c =
-    let found = c.in_ok-record_of-in-Rec.field-0 in
-    let payload = record_payload c.args.text.now found c.in_ok-record_of-in-Rec.ensures in
-    subst (λ (t : MessageType). IsAnswer (IsPayload t c.args.text.now) c.map.result) (sym c.in-Rec.is) (along (IsPayload types.Rec c.args.text.now) (mapped (λ content. message.Rec content) found c.map.result c.map.ensures.cases) payload)
 
 pub returns-in_ok-spec_of-in-Spec : goal.returns-in_ok-spec_of-in-Spec
 returns-in_ok-spec_of-in-Spec c =

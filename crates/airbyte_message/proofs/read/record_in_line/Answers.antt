@@ -1,0 +1,53 @@
+use Rattle.std.proofs.Common.{ℕ, List, Option, None, Some, slice_index_or, refl, sym, ap, subst, ◌∙◌, codes}
+use Rattle.std.specs.Option.{option_map}
+use Rattle.std.proofs.lemmas.Result.{IfOk-weaker}
+use Rattle.json_span.specs.Levels.{AreInside}
+use Rattle.json_span.specs.Members.{text_at}
+use Rattle.json_span.specs.declared.Member.{Member}
+use Rattle.json_fields.specs.Fields.{IsCut, line_depth}
+use Rattle.json_fields.specs.Words.{IsPlaceOf}
+use Rattle.json_fields.proofs.FieldLemmas.{field_answer}
+use Rattle.airbyte_message.specs.Views.{record_at}
+use Rattle.airbyte_message.proofs.ViewLemmas.{record_at_payload, record_absent, record_no_object, field_at, inside_at, cut_inside}
+use Rattle.airbyte_message.proofs.read.record_in_line.Goals as goal
+
+abbrev no_member : Member
+no_member = record { key = record { start = 0; end = 0 }; value = record { start = 0; end = 0 } }
+
+pub returns-in_default : goal.returns-in_default
+returns-in_default c =
+    let line = c.args.line.now in
+    let members = c.outer-members.result.now in
+    let cut = subst (λ (ms : List Member). IsCut line ms) (sym c.outer-members.ensures) c.requires.cut in
+    let none = subst (λ (found : Option ℕ). IsPlaceOf line (codes "record") members found) c.in_default.is c.in_ok-place.ensures in
+    record_absent line (field_answer line (codes "record") members None cut none)
+
+pub record_in-requires : goal.record_in-requires
+record_in-requires c =
+    let line = c.args.line.now in
+    let members = c.outer-members.result.now in
+    let inside = subst (λ (ms : List Member). AreInside line_depth line ms c.args.levels.now.inner) (sym c.outer-members.ensures) c.requires.inside in
+    let place = subst (λ (found : Option ℕ). IsPlaceOf line (codes "record") members found) c.in-Some.is c.in_ok-place.ensures in
+    let got = c.inner.ensures ∙ ap (λ o. Some (option_map (λ ms. ms.now) o)) c.in-Some-inner.is in
+    cut_inside c.of.result.now c.in-Some-inner.parts.now (inside_at line (codes "record") members c.args.levels.now.inner c.in-Some.place no_member c.of.result.now (Some c.in-Some-inner.parts.now) inside place c.of.ensures got)
+
+pub returns-in-Some-inner : goal.returns-in-Some-inner
+returns-in-Some-inner c =
+    let line = c.args.line.now in
+    let members = c.outer-members.result.now in
+    let cut = subst (λ (ms : List Member). IsCut line ms) (sym c.outer-members.ensures) c.requires.cut in
+    let place = subst (λ (found : Option ℕ). IsPlaceOf line (codes "record") members found) c.in-Some.is c.in_ok-place.ensures in
+    let field = field_at line (codes "record") members c.in-Some.place no_member c.of.result.now cut place c.of.ensures in
+    IfOk-weaker c.record_in.result _ _ (λ found answer. record_at_payload line c.of.result.now (option_map record_at found) field answer) c.record_in.ensures
+
+pub returns-in-None : goal.returns-in-None
+returns-in-None c =
+    let line = c.args.line.now in
+    let members = c.outer-members.result.now in
+    let cut = subst (λ (ms : List Member). IsCut line ms) (sym c.outer-members.ensures) c.requires.cut in
+    let inside = subst (λ (ms : List Member). AreInside line_depth line ms c.args.levels.now.inner) (sym c.outer-members.ensures) c.requires.inside in
+    let place = subst (λ (found : Option ℕ). IsPlaceOf line (codes "record") members found) c.in-Some.is c.in_ok-place.ensures in
+    let value = text_at line (slice_index_or members c.in-Some.place no_member).value in
+    let field = field_at line (codes "record") members c.in-Some.place no_member value cut place refl in
+    let got = c.inner.ensures ∙ ap (λ o. Some (option_map (λ ms. ms.now) o)) c.in-None.is in
+    record_at_payload line value None field (record_no_object value (inside_at line (codes "record") members c.args.levels.now.inner c.in-Some.place no_member value None inside place refl got))
