@@ -4,9 +4,9 @@ ghost use Rattle.json_fields.specs.Answer.{IsAnswer};
 ghost use Rattle.airbyte_message.specs.Messages.{IsCatalog};
 
 use crate::CatalogMsg;
-use basics::{Bytes, NoMemory};
 use json_fields::{array_field, cut};
 use json_span::MAX_DEPTH;
+use basics::{Bytes, NoMemory};
 use std::alloc::Global;
 
 /// The catalog that a payload is.

@@ -6,9 +6,9 @@ ghost use Rattle.airbyte_message.specs.Messages.{IsConnection};
 ghost use Rattle.airbyte_message.specs.Words.{connection_text};
 
 use crate::ConnectionMsg;
-use basics::NoMemory;
 use json_fields::{cut, optional_text, text_field};
 use json_span::{MAX_DEPTH, MemberList};
+use basics::NoMemory;
 use std::alloc::Global;
 
 // Whether a status of this name is a success.

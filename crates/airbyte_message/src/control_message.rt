@@ -4,9 +4,9 @@ ghost use Rattle.json_fields.specs.Answer.{IsAnswer};
 ghost use Rattle.airbyte_message.specs.Messages.{IsControl};
 
 use crate::ControlMsg;
-use basics::{Bytes, NoMemory};
 use json_fields::{cut, text_field};
 use json_span::MAX_DEPTH;
+use basics::{Bytes, NoMemory};
 use std::alloc::Global;
 
 /// The control message that a payload is.

@@ -6,9 +6,9 @@ ghost use Rattle.airbyte_message.specs.Messages.{IsLog};
 ghost use Rattle.airbyte_message.specs.Words.{level_text};
 
 use crate::{Level, LogMsg};
-use basics::NoMemory;
 use json_fields::{cut, text_field};
 use json_span::{MAX_DEPTH, MemberList};
+use basics::NoMemory;
 use std::alloc::Global;
 
 // The member `level`.

@@ -17,16 +17,10 @@ use crate::record_message::record_in;
 use crate::spec_message::spec_of;
 use crate::state_message::state_of;
 use crate::trace_message::trace_of;
-<<<<<<< HEAD
-use basics::NoMemory;
-use json_fields::{cut, field, text_field};
-use json_span::{MAX_DEPTH, MemberList};
-=======
 use crate::view::{MessageView, RecordView, own_message};
 use basics::NoMemory;
 use json_fields::{field_in, place_of, text_in};
 use json_span::{DeepMembers, Member, SpanFault};
->>>>>>> 42fa38dc753ca5b66b4513f03e2fbb0665f4cb47
 use std::alloc::Global;
 
 /// What a line is of.

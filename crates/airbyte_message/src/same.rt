@@ -3,8 +3,8 @@ ghost use Rattle.std.specs.Prelude.{◌≡◌, ◌↔◌, IfOk, IsTrue, map};
 ghost use Rattle.airbyte_message.specs.Same.{IsSameKind, Same, SameLaws, blob_form, part_form};
 
 use crate::{Raw, StateKind, StateMsg, StreamBlob, StreamBlobList};
-use basics::{Bytes, Name, NoMemory, StreamId};
 use json_squeeze::squeeze;
+use basics::{Bytes, Name, NoMemory, StreamId};
 use std::alloc::Global;
 
 // Whether two namespaces are equal, or both absent.

@@ -4,9 +4,9 @@ ghost use Rattle.json_fields.specs.Answer.{IsAnswer};
 ghost use Rattle.airbyte_message.specs.Messages.{IsSpec};
 
 use crate::SpecMsg;
-use basics::{Bytes, NoMemory};
 use json_fields::{cut, object_field};
 use json_span::MAX_DEPTH;
+use basics::{Bytes, NoMemory};
 use std::alloc::Global;
 
 /// The specification that a payload is.

@@ -7,9 +7,9 @@ ghost use Rattle.airbyte_message.specs.States.{HasStats, HasStateType, IsKind, I
 
 use crate::stream_blob::{global_of, stream_of};
 use crate::{StateKind, StateMsg, StreamBlob};
-use basics::{Bytes, Name, NoMemory};
 use json_fields::{cut, optional, optional_count, optional_text};
 use json_span::{MAX_DEPTH, MemberList};
+use basics::{Bytes, Name, NoMemory};
 use std::alloc::Global;
 
 // A state nests at most so deep, so that the state store can hold it.

@@ -8,9 +8,9 @@ ghost use Rattle.airbyte_message.specs.States.{AreStreamBlobs, HasStreamBlobs, I
 use crate::parts::{copied, descriptor_of};
 use crate::state_message::StateType;
 use crate::{StateKind, StreamBlob, StreamBlobList};
-use basics::NoMemory;
 use json_fields::{cut, cut_list, field, optional};
 use json_span::{MAX_DEPTH, MemberList, Span};
+use basics::NoMemory;
 use std::alloc::Global;
 
 // A stream and its blob.

@@ -8,9 +8,9 @@ ghost use Rattle.airbyte_message.specs.Words.{failure_text, status_text, trace_t
 
 use crate::parts::{copied, descriptor_of};
 use crate::{FailureType, StreamStatus, TraceMsg};
-use basics::{Bytes, NoMemory};
 use json_fields::{cut, field, optional_number, optional_text, text_field};
 use json_span::{MAX_DEPTH, MemberList};
+use basics::{Bytes, NoMemory};
 use std::alloc::Global;
 
 /// What a trace is of.

@@ -7,8 +7,8 @@ ghost use Rattle.json_fields.specs.Answer.{IsAnswer, IsOnly};
 ghost use Rattle.json_fields.specs.Fields.{Holds, HasField, HasOptional, HasText, HasOptionalText, IsCut};
 ghost use Rattle.json_span.specs.Members.{AreMembers, IsMemberOf, IsValue};
 
-use basics::{Name, NoMemory};
 use json_span::{MAX_DEPTH, Member, MemberList, SpanFault, is_string_of, members_within, text_of};
+use basics::{Name, NoMemory};
 use std::alloc::Global;
 
 /// The members of an object that nests at most `limit` deep, `None` where the text is none.

@@ -5,8 +5,8 @@ ghost use Rattle.json_fields.specs.Answer.{IsOnly};
 ghost use Rattle.json_fields.specs.Fields.{IsCut};
 ghost use Rattle.json_fields.specs.Parts.{Without};
 
-use basics::NoMemory;
 use json_span::{MemberList, is_string_of};
+use basics::NoMemory;
 use std::alloc::Global;
 
 /// The members that do not have this name, in order.

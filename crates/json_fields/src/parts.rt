@@ -9,10 +9,10 @@ ghost use Rattle.json_fields.specs.Fields.{IsCut};
 ghost use Rattle.json_fields.specs.Parts.{HasArray, HasCount, HasObject, HasOptionalCount, HasOptionalNumber, IsCutList, IsNumber};
 
 use crate::{field, optional};
-use basics::NoMemory;
 use json_span::{
     MAX_DEPTH, MemberList, SpanFault, SpanList, elements_within, is_array, is_object, whole_of,
 };
+use basics::NoMemory;
 use std::alloc::Global;
 
 /// A member that is an object.

@@ -13,7 +13,7 @@ pub use laws::{
     texts_read_back,
 };
 pub use member::{
-    put_key, put_member, put_number_member, put_optional_member, put_optional_string,
+    put_number_member, put_key, put_member, put_optional_member, put_optional_string,
     put_string_member,
 };
 pub use text::{put_number, put_string};

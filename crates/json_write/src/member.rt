@@ -42,7 +42,12 @@ pub fn put_string_member(
 }
 
 /// Puts a member whose value is a number.
-pub fn put_number_member(text: &mut Bytes, mark: u8, name: &str, value: u64) -> Result<(), NoMemory>
+pub fn put_number_member(
+    text: &mut Bytes,
+    mark: u8,
+    name: &str,
+    value: u64,
+) -> Result<(), NoMemory>
     ensures ok { OnOk result (text.new ≡ text.old ++ mark ∷ part_before (named name.now (decimal value)) []) }
     ensures front { IsFrontOf text.old text.new }
 {

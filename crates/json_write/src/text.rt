@@ -40,7 +40,14 @@ fn put_byte(text: &mut Bytes, byte: u8) -> Result<(), NoMemory>
         return text.extend(&[b'\\', letter]);
     }
     if byte < 32 {
-        return text.extend(&[b'\\', b'u', b'0', b'0', digit(byte / 16), digit(byte % 16)]);
+        return text.extend(&[
+            b'\\',
+            b'u',
+            b'0',
+            b'0',
+            digit(byte / 16),
+            digit(byte % 16),
+        ]);
     }
     text.push(byte)
 }

@@ -4,8 +4,8 @@ ghost use Rattle.json.specs.Print.{quoted};
 ghost use Rattle.json_scalar.specs.Quotes.{in_quotes};
 ghost use Rattle.message_writer.specs.Objects.{more_text, optional, part_before};
 
-use basics::{Bytes, NoMemory};
 use json_span::quote;
+use basics::{Bytes, NoMemory};
 use std::alloc::Global;
 
 // Puts a member's name, with the colon behind it.
