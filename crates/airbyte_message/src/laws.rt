@@ -1,7 +1,12 @@
 // Laws of messages.
-ghost use Rattle.airbyte_message.specs.Laws.{OneMessage};
+ghost use Rattle.airbyte_message.specs.Laws.{OneEcho, OneMessage};
 
 /// A law: a line is at most one message.
 pub fn one_message()
     ensures { OneMessage }
+{}
+
+/// A law: a state object and a count have one echo.
+pub fn one_echo()
+    ensures { OneEcho }
 {}

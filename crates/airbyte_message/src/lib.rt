@@ -23,7 +23,7 @@ mod view;
 
 pub use echo::echo_of;
 pub use failure_type::FailureType;
-pub use laws::one_message;
+pub use laws::{one_echo, one_message};
 pub use level::Level;
 pub use message::{
     CatalogMsg, ConnectionMsg, ControlMsg, LogMsg, Message, Raw, RecordMsg, SpecMsg, StateKind,

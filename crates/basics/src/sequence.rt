@@ -9,6 +9,7 @@ use std::alloc::Global;
 use std::cmp::Ordering;
 use std::hash::{Hash, Hasher};
 use std::marker::Model;
+use std::mem;
 
 /// A list of elements, which contracts see as that list.
 #[derive(Debug, Drop)]
@@ -143,6 +144,15 @@ impl<T> Sequence<T> {
         ensures { self.new ≡ slice_set self.old index item }
     {
         self.items[index] = item;
+    }
+
+    /// Puts an element in the place of the one at an index, and hands that out.
+    pub fn replace(&mut self, index: usize, item: T) -> T
+        requires { index < length self.old }
+        ensures set { self.new ≡ slice_set self.old index item }
+        ensures taken { slice_get self.old index ≡ Some result }
+    {
+        mem::replace(&mut self.items[index], item)
     }
 
     /// Takes out the last element; `None` exactly where there is none.

@@ -404,6 +404,24 @@ impl Machine {
         }
     }
 
+    /// Reads a member and the comma behind it, or as much of them as stands here.
+    #[inline(always)]
+    fn take_member(&mut self, text: &[u8], at: usize) -> Result<usize, NoMemory>
+        requires place { at < length text.now }
+        requires begins { move_of self.old.phase (slice_index text.now at) ≡ moves.BeginKey }
+        ensures taken { IfOk result (IsTaken text.now self.old at self.new) }
+        ensures further { IfOk result (λ to. (at < to) × (to ≤ length text.now)) }
+    {
+        let behind = self.take_key(text, at)?;
+        if behind == text.len() || text[behind] != b',' {
+            return Ok(behind);
+        }
+        match self.phase {
+            Phase::After => self.make_at(text, behind, Move::Comma),
+            _ => Ok(behind),
+        }
+    }
+
     /// Reads the next token, or a part of it: at least one byte.
     #[inline(always)]
     pub fn take(&mut self, text: &[u8], at: usize) -> Result<usize, NoMemory>
@@ -412,8 +430,8 @@ impl Machine {
         ensures further { IfOk result (λ to. (at < to) × (to ≤ length text.now)) }
     {
         match self.phase {
-            Phase::FirstKey if text[at] == b'"' => self.take_key(text, at),
-            Phase::Key if text[at] == b'"' => self.take_key(text, at),
+            Phase::FirstKey if text[at] == b'"' => self.take_member(text, at),
+            Phase::Key if text[at] == b'"' => self.take_member(text, at),
             Phase::Value => self.take_value(text, at),
             Phase::After => self.take_behind(text, at),
             Phase::FirstItem if text[at] == b']' => {

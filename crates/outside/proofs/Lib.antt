@@ -1,1 +1,5 @@
+pub mod WinnerLaws
+pub mod WinnerMapLemmas
+pub mod ToldLaws
+pub mod DockLaws
 pub mod Says

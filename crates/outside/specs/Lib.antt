@@ -5,3 +5,9 @@ pub mod Faults
 pub mod Limits
 pub mod NoLink
 pub mod Status
+pub mod Winners
+pub mod WinnerMap
+pub mod Tables
+pub mod Hand
+pub mod Dock
+pub mod ByteStreams

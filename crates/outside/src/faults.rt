@@ -2,7 +2,7 @@
 ghost use Rattle.std.specs.Prelude.{◌≡◌};
 ghost use Rattle.outside.specs.Faults.{input_text, side_text};
 
-use basics::StreamNo;
+use basics::{NoMemory, StreamNo};
 
 /// What a destination refuses in a line of its input.
 #[derive(Clone, Copy, Debug, PartialEq, Eq)]
@@ -97,6 +97,18 @@ pub enum CatalogFault {
     NoMemory,
 }
 
+impl From<NoMemory> for CatalogFault {
+    ghost use Rattle.std.specs.Prelude.{◌≡◌};
+    ghost use Rattle.outside.specs.declared.faults.CatalogFault.{CatalogFault};
+    ghost use Rattle.outside.specs.declared.faults.CatalogFault.TheVariants as fault;
+
+    ghost from_gives = { λ _ found. found ≡ fault.NoMemory };
+
+    fn from(_: NoMemory) -> Self {
+        CatalogFault::NoMemory
+    }
+}
+
 /// Why a text is no set of saved states, or a state cannot be put into one.
 #[derive(Clone, Copy, Debug, PartialEq, Eq)]
 pub enum StateFault {
@@ -117,6 +129,18 @@ pub enum StateFault {
     /// The blob's place lies behind the source's end.
     OutOfRange,
     NoMemory,
+}
+
+impl From<NoMemory> for StateFault {
+    ghost use Rattle.std.specs.Prelude.{◌≡◌};
+    ghost use Rattle.outside.specs.declared.faults.StateFault.{StateFault};
+    ghost use Rattle.outside.specs.declared.faults.StateFault.TheVariants as fault;
+
+    ghost from_gives = { λ _ found. found ≡ fault.NoMemory };
+
+    fn from(_: NoMemory) -> Self {
+        StateFault::NoMemory
+    }
 }
 
 /// Why a text is no configuration of a connector.

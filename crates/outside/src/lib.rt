@@ -1,7 +1,9 @@
 //! What every crate of the worker shares: byte texts, names, lists, events, statuses, and the traits of the outside.
 #![tactic(auto)]
 
+mod byte_streams;
 mod desk;
+mod dock;
 mod event;
 mod fault;
 mod faults;
@@ -11,12 +13,18 @@ mod load;
 mod no_link;
 mod status;
 mod std_desk;
+mod table;
+mod winner_map;
+mod winners;
 
 pub use basics::{
-    Boxed, Bytes, BytesList, Copies, FailList, Name, NoMemory, Path, PathList, RoomySequence,
-    Sequence, StreamId, StreamNo,
+    Boxed, Bytes, BytesList, Copies, DEEPEST_JSON, DEEPEST_STATE, FailList, GREATEST_GENERATION,
+    LONGEST_DEST_LINE, LONGEST_LINE, LONGEST_NAME, MOST_STREAMS, Name, NoMemory, Path, PathList,
+    RoomySequence, Sequence, StreamId, StreamNo,
 };
+pub use byte_streams::{Sink, Source};
 pub use desk::Desk;
+pub use dock::{Dock, DockTally, HandDock};
 pub use event::{
     AskKind, AttemptPlan, Codes, Event, EventList, Exit, Job, LoadPlan, RawRow, RawRowList,
     StreamPlan,
@@ -29,3 +37,7 @@ pub use load::{DockCounts, Limits, Load, Marks, MarksList, Unmerged};
 pub use no_link::NoLink;
 pub use status::Status;
 pub use std_desk::StdDesk;
+pub use table::{
+    Generations, PlacedRow, PlacedRowList, StreamTable, StreamTableList, TableSide, Tables,
+};
+pub use winners::Winners;

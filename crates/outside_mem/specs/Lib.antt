@@ -1,1 +1,3 @@
 pub mod MemDesk
+pub mod Calls
+pub mod MemDock

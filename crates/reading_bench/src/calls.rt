@@ -84,15 +84,27 @@ fn held_by(levels: &DeepMembers) -> u64 {
     count
 }
 
-// The bytes of the records.
+// The bytes of a record's data, or 1 for another message.
+fn size_of_view(view: &MessageView<'_>) -> u64 {
+    match view {
+        MessageView::Rec(record) => record.body.len() as u64,
+        MessageView::Owned(_) => 1,
+    }
+}
+
+fn size_of_message(message: &Message) -> u64 {
+    match message {
+        Message::Rec(record) => record.body.len() as u64,
+        _ => 1,
+    }
+}
+
 fn count_views(alloc: Global, lines: &[&[u8]]) -> Result<u64, NoMemory> {
     let mut reader = MessageReader::new(alloc);
     let mut count = 0u64;
     for line in lines {
-        match reader.read(line)? {
-            Some(MessageView::Rec(record)) => count = count.wrapping_add(record.body.len() as u64),
-            Some(_) => count = count.wrapping_add(1),
-            None => (),
+        if let Some(view) = reader.read(line)? {
+            count = count.wrapping_add(size_of_view(&view));
         }
     }
     Ok(count)
@@ -101,10 +113,8 @@ fn count_views(alloc: Global, lines: &[&[u8]]) -> Result<u64, NoMemory> {
 fn count_messages(alloc: Global, lines: &[&[u8]]) -> Result<u64, NoMemory> {
     let mut count = 0u64;
     for line in lines {
-        match read_message(alloc, line)? {
-            Some(Message::Rec(record)) => count = count.wrapping_add(record.body.len() as u64),
-            Some(_) => count = count.wrapping_add(1),
-            None => (),
+        if let Some(message) = read_message(alloc, line)? {
+            count = count.wrapping_add(size_of_message(&message));
         }
     }
     Ok(count)

@@ -1,0 +1,5 @@
+pub mod Cursors
+pub mod Winners
+pub mod Steps
+pub mod Faults
+pub mod Pages

@@ -1,0 +1,5 @@
+pub mod TraceLemmas
+pub mod StoreLemmas
+pub mod DockLemmas
+pub mod PollLemmas
+pub mod MoveLemmas

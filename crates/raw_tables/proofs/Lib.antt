@@ -1,0 +1,5 @@
+pub mod TableLemmas
+pub mod PageLemmas
+pub mod TableLaws
+pub mod StoreLaws
+pub mod PageLaws

@@ -1,0 +1,132 @@
+-- What a change of one stream's table leaves of the others, and what it does to the marks of the load's sides.
+use Rattle.std.proofs.Common.{◌≡◌, ℕ, zero, suc, List, [], ◌∷◌, map, set, Bool, true, false, cond, ◌&&◌, ◌⊎◌, inl, inr, subst, Option, None, Some, slice_get, refl, sym, ◌∙◌, ap}
+use Rattle.std.specs.List.{AllByRecursion}
+use Rattle.std.specs.Str.{bytes_eq}
+use Rattle.std.proofs.lemmas.Slice.Eq.{bytes_eq-Decides}
+use Rattle.std.proofs.lemmas.Bool.{false_from_ne_true, false≢true}
+use Rattle.basics.specs.declared.stream.StreamId.{StreamId}
+use Rattle.outside.specs.declared.event.StreamPlan.{StreamPlan}
+use Rattle.outside.specs.declared.table.StreamTable.{StreamTable}
+use Rattle.outside.specs.Tables.{same_id, same_namespace, empty_table, table_in, changed, side_of, shown_plan, shown_table}
+use Rattle.outside.specs.Dock.{HasOtherId, HasOwnIds}
+
+-- Ids
+
+namespace_is : (a b : Option (List ℕ)) → same_namespace a b ≡ true → a ≡ b
+namespace_is None None e = refl
+namespace_is None (Some b) e = cc
+namespace_is (Some a) None e = cc
+namespace_is (Some a) (Some b) e = ap Some ((bytes_eq-Decides a b).0 e)
+
+namespace_own : (a : Option (List ℕ)) → same_namespace a a ≡ true
+namespace_own None = refl
+namespace_own (Some a) = (bytes_eq-Decides a a).1 refl
+
+both_true : (a b : Bool) → (a && b) ≡ true → (a ≡ true) × (b ≡ true)
+both_true true b e = (refl, e)
+both_true false b e = absurd (false≢true e)
+
+pub id_is : (a b : StreamId) → same_id a b ≡ true → a ≡ b
+id_is a b e =
+    let parts = both_true (bytes_eq a.name b.name) (same_namespace a.namespace b.namespace) e in
+    let names : a.name ≡ b.name = (bytes_eq-Decides a.name b.name).0 parts.0 in
+    let namespaces : a.namespace ≡ b.namespace = namespace_is a.namespace b.namespace parts.1 in
+    ap (λ (n : List ℕ). record a { name = n }) names ∙ ap (λ (n : Option (List ℕ)). record b { namespace = n }) namespaces
+
+pub id_own : (a : StreamId) → same_id a a ≡ true
+id_own a = rw ((bytes_eq-Decides a.name a.name).1 refl) (namespace_own a.namespace)
+
+pub id_apart : (a b : StreamId) → same_id a b ≡ false → same_id b a ≡ false
+id_apart a b e = false_from_ne_true (same_id b a) (λ t. false≢true (sym e ∙ (ap (λ (c : StreamId). same_id c b) (sym (id_is b a t)) ∙ id_own b)))
+
+-- Tables
+
+abbrev KeepsId : (StreamTable → StreamTable) → Type 0
+KeepsId change = (table : StreamTable) → (change table).id ≡ table.id
+
+-- the stream's own table is the changed one
+pub table_own : (change : StreamTable → StreamTable) (id : StreamId) (tables : List StreamTable) → KeepsId change → table_in (changed change id tables) id ≡ change (table_in tables id)
+table_own change id [] keeps = rw (keeps (empty_table id), id_own id)
+table_own change id (table ∷ tables) keeps = by_test (same_id table.id id) refl (table_own change id tables keeps) where
+  by_test : (b : Bool) → same_id table.id id ≡ b → table_in (changed change id tables) id ≡ change (table_in tables id) → table_in (changed change id (table ∷ tables)) id ≡ change (table_in (table ∷ tables) id)
+  by_test true e rest = rw (e, keeps table, e)
+  by_test false e rest = rw (e, e) rest
+
+-- every other table stays
+pub table_other : (change : StreamTable → StreamTable) (id other : StreamId) (tables : List StreamTable) → KeepsId change → same_id id other ≡ false → table_in (changed change id tables) other ≡ table_in tables other
+table_other change id other [] keeps apart = rw (keeps (empty_table id), apart)
+table_other change id other (table ∷ tables) keeps apart = by_test (same_id table.id id) refl (table_other change id other tables keeps apart) where
+  by_test : (b : Bool) → same_id table.id id ≡ b → table_in (changed change id tables) other ≡ table_in tables other → table_in (changed change id (table ∷ tables)) other ≡ table_in (table ∷ tables) other
+  by_test true e rest =
+      let differs : same_id table.id other ≡ false = ap (λ (c : StreamId). same_id c other) (id_is table.id id e) ∙ apart in
+      rw (e, keeps table, differs)
+  by_test false e rest = rw e (ap (λ (t : StreamTable). cond (same_id table.id other) table t) rest)
+
+-- a table is changed, or stays
+table_either : (change : StreamTable → StreamTable) (id other : StreamId) (tables : List StreamTable) → KeepsId change → (table_in (changed change id tables) other ≡ change (table_in tables other)) ⊎ (table_in (changed change id tables) other ≡ table_in tables other)
+table_either change id other tables keeps = by_test (same_id id other) refl where
+  by_test : (b : Bool) → same_id id other ≡ b → (table_in (changed change id tables) other ≡ change (table_in tables other)) ⊎ (table_in (changed change id tables) other ≡ table_in tables other)
+  by_test true e = inl (subst (λ (c : StreamId). table_in (changed change id tables) c ≡ change (table_in tables c)) (id_is id other e) (table_own change id tables keeps))
+  by_test false e = inr (table_other change id other tables keeps e)
+
+-- Marks of the load's sides
+
+abbrev mark_of : List StreamTable → StreamPlan → ℕ
+mark_of tables plan = (side_of plan (table_in tables plan.id)).mark
+
+marks_other : (change : StreamTable → StreamTable) (id : StreamId) (tables : List StreamTable) (plans : List StreamPlan) → KeepsId change → AllByRecursion (HasOtherId id) plans → map (mark_of (changed change id tables)) plans ≡ map (mark_of tables) plans
+marks_other change id tables [] keeps apart = refl
+marks_other change id tables (plan ∷ plans) keeps apart =
+    let head : mark_of (changed change id tables) plan ≡ mark_of tables plan = ap (λ (t : StreamTable). (side_of plan t).mark) (table_other change id plan.id tables keeps (id_apart plan.id id apart.0)) in
+    let tail = marks_other change id tables plans keeps apart.1 in
+    cc
+
+other_at : (id : StreamId) (plans : List StreamPlan) (stream : ℕ) (plan : StreamPlan) → AllByRecursion (HasOtherId id) plans → slice_get plans stream ≡ Some plan → same_id plan.id id ≡ false
+other_at id [] stream plan apart at = cc
+other_at id (first ∷ plans) zero plan apart at = let e : first ≡ plan = cc in subst (λ (p : StreamPlan). same_id p.id id ≡ false) e apart.0
+other_at id (first ∷ plans) (suc stream) plan apart at = other_at id plans stream plan apart.1 at
+
+-- a change of the table of one of the load's streams sets its mark
+pub marks_set : (change : StreamTable → StreamTable) (tables : List StreamTable) (plans : List StreamPlan) (stream : ℕ) (plan : StreamPlan) → KeepsId change → HasOwnIds plans → slice_get plans stream ≡ Some plan → map (mark_of (changed change plan.id tables)) plans ≡ set (map (mark_of tables) plans) stream (side_of plan (change (table_in tables plan.id))).mark
+marks_set change tables [] stream plan keeps own at = cc
+marks_set change tables (first ∷ plans) zero plan keeps own at =
+    let e : first ≡ plan = cc in
+    let head : mark_of (changed change plan.id tables) first ≡ (side_of plan (change (table_in tables plan.id))).mark = ap (mark_of (changed change plan.id tables)) e ∙ ap (λ (t : StreamTable). (side_of plan t).mark) (table_own change plan.id tables keeps) in
+    let apart : AllByRecursion (HasOtherId plan.id) plans = subst (λ (p : StreamPlan). AllByRecursion (HasOtherId p.id) plans) e own.0 in
+    let tail = marks_other change plan.id tables plans keeps apart in
+    cc
+marks_set change tables (first ∷ plans) (suc stream) plan keeps own at =
+    let head : mark_of (changed change plan.id tables) first ≡ mark_of tables first = ap (λ (t : StreamTable). (side_of first t).mark) (table_other change plan.id first.id tables keeps (other_at first.id plans stream plan own.0 at)) in
+    let tail = marks_set change tables plans stream plan keeps own.1 at in
+    cc
+
+-- a change that keeps the marks of both sides
+pub marks_kept : (change : StreamTable → StreamTable) (id : StreamId) (tables : List StreamTable) (plans : List StreamPlan) → KeepsId change → ((plan : StreamPlan) (table : StreamTable) → (side_of plan (change table)).mark ≡ (side_of plan table).mark) → map (mark_of (changed change id tables)) plans ≡ map (mark_of tables) plans
+marks_kept change id tables [] keeps same = refl
+marks_kept change id tables (plan ∷ plans) keeps same =
+    let by_case : (table_in (changed change id tables) plan.id ≡ change (table_in tables plan.id)) ⊎ (table_in (changed change id tables) plan.id ≡ table_in tables plan.id) → mark_of (changed change id tables) plan ≡ mark_of tables plan = λ either. elim either [ inl e ↦ ap (λ (t : StreamTable). (side_of plan t).mark) e ∙ same plan (table_in tables plan.id) | inr e ↦ ap (λ (t : StreamTable). (side_of plan t).mark) e ] in
+    let head = by_case (table_either change id plan.id tables keeps) in
+    let tail = marks_kept change id tables plans keeps same in
+    cc
+
+shown_mark : (plan : StreamPlan) (table : StreamTable) (b : Bool) → plan.hidden ≡ b → (side_of (shown_plan plan) (shown_table plan table)).mark ≡ (side_of plan table).mark
+shown_mark plan table true e = rw e
+shown_mark plan table false e = rw e
+
+shown_id : (plan : StreamPlan) (table : StreamTable) (b : Bool) → plan.hidden ≡ b → (shown_table plan table).id ≡ table.id
+shown_id plan table true e = rw e
+shown_id plan table false e = rw e
+
+-- showing a stream leaves the marks
+pub marks_shown : (tables : List StreamTable) (plans : List StreamPlan) (stream : ℕ) (plan : StreamPlan) → HasOwnIds plans → slice_get plans stream ≡ Some plan → map (mark_of (changed (shown_table plan) plan.id tables)) (set plans stream (shown_plan plan)) ≡ map (mark_of tables) plans
+marks_shown tables [] stream plan own at = cc
+marks_shown tables (first ∷ plans) zero plan own at =
+    let e : first ≡ plan = cc in
+    let head : mark_of (changed (shown_table plan) plan.id tables) (shown_plan plan) ≡ mark_of tables plan = ap (λ (t : StreamTable). (side_of (shown_plan plan) t).mark) (table_own (shown_table plan) plan.id tables (λ t. shown_id plan t plan.hidden refl)) ∙ shown_mark plan (table_in tables plan.id) plan.hidden refl in
+    let apart : AllByRecursion (HasOtherId plan.id) plans = subst (λ (p : StreamPlan). AllByRecursion (HasOtherId p.id) plans) e own.0 in
+    let tail = marks_other (shown_table plan) plan.id tables plans (λ t. shown_id plan t plan.hidden refl) apart in
+    cc
+marks_shown tables (first ∷ plans) (suc stream) plan own at =
+    let head : mark_of (changed (shown_table plan) plan.id tables) first ≡ mark_of tables first = ap (λ (t : StreamTable). (side_of first t).mark) (table_other (shown_table plan) plan.id first.id tables (λ t. shown_id plan t plan.hidden refl) (other_at first.id plans stream plan own.0 at)) in
+    let tail = marks_shown tables plans stream plan own.1 at in
+    cc
