@@ -6,8 +6,8 @@ use Rattle.std.proofs.lemmas.Grind.{flat_map-append}
 use Rattle.outside.specs.declared.event.Event.{Event}
 use Rattle.airbyte_message.specs.declared.message.Message.{Message}
 use Rattle.airbyte_message.specs.declared.message.Message.TheVariants as message
-use Rattle.worker_run.specs.Rounds.{Heard, Round, record_round, state_round, other_round, heard_in, Counted, none_counted, counted_after, counted_through, AreRounds, IsPassedOver}
-use Rattle.worker_run.specs.World.{World, first_events, rounds_events}
+use Rattle.worker_run.specs.TakenLines.{FoundLine, TakenLine, record_line, state_line, other_line, found_in, Counted, none_counted, counted_after, counted_through, AreTaken, IsPassedOver}
+use Rattle.worker_run.specs.World.{World, first_events, all_taken_events}
 use Rattle.worker_run.specs.EventParts.{rows_of}
 use Rattle.worker_run.specs.Output.{row_line, row_lines, body_of, body_lines, committed_lines}
 use Rattle.worker_run.specs.Reached.{IsReached, ending_events}
@@ -24,14 +24,14 @@ no_body (Some (message.Catalog catalog)) passed = refl
 no_body (Some (message.Trace content)) passed = refl
 no_body (Some (message.Control control)) passed = refl
 
-no_row : (line : List ℕ) (found : Option Message) (heard : List Heard) → IsPassedOver found → row_lines (record { line = line; found = found } ∷ heard) ≡ row_lines heard
-no_row line found heard passed = ap (λ (body : Option (List ℕ)). map row_line (cons_option body (filter_map (λ h. body_of h.found) heard))) (no_body found passed)
+no_row : (line : List ℕ) (found : Option Message) (found_lines : List FoundLine) → IsPassedOver found → row_lines (record { line = line; found = found } ∷ found_lines) ≡ row_lines found_lines
+no_row line found found_lines passed = ap (λ (body : Option (List ℕ)). map row_line (cons_option body (filter_map (λ h. body_of h.found) found_lines))) (no_body found passed)
 
-pub committed_rounds : (stream : List ℕ) (counted : Counted) (rounds : List Round) → AreRounds stream counted rounds → committed_lines (rounds_events stream counted rounds) ≡ row_lines (heard_in rounds)
-committed_rounds stream counted [] are = refl
-committed_rounds stream counted (record_round line content ∷ rounds) are = ap (λ (ls : List (List ℕ)). row_line content.body ∷ ls) (committed_rounds stream (counted_after counted (record_round line content)) rounds are.1)
-committed_rounds stream counted (state_round line state echo ∷ rounds) are = committed_rounds stream (counted_after counted (state_round line state echo)) rounds are.1
-committed_rounds stream counted (other_round line found ∷ rounds) are = committed_rounds stream counted rounds are.1 ∙ sym (no_row line found (heard_in rounds) are.0.passed)
+pub committed_taken : (stream : List ℕ) (counted : Counted) (taken_lines : List TakenLine) → AreTaken stream counted taken_lines → committed_lines (all_taken_events stream counted taken_lines) ≡ row_lines (found_in taken_lines)
+committed_taken stream counted [] are = refl
+committed_taken stream counted (record_line line content ∷ taken_lines) are = ap (λ (ls : List (List ℕ)). row_line content.body ∷ ls) (committed_taken stream (counted_after counted (record_line line content)) taken_lines are.1)
+committed_taken stream counted (state_line line state echo ∷ taken_lines) are = committed_taken stream (counted_after counted (state_line line state echo)) taken_lines are.1
+committed_taken stream counted (other_line line found ∷ taken_lines) are = committed_taken stream counted taken_lines are.1 ∙ sym (no_row line found (found_in taken_lines) are.0.passed)
 
 ending_commits_nothing : (is_over : Bool) → committed_lines (ending_events is_over) ≡ []
 ending_commits_nothing true = refl
@@ -41,16 +41,16 @@ pub committed_append : (a b : List Event) → committed_lines (a ++ b) ≡ commi
 committed_append a b = flat_map-append (λ event. body_lines (rows_of event)) a b
 
 -- the rows that a world has committed are those of its records
-pub reached_rows : (world : World) (r : IsReached world) → committed_lines world.events ≡ row_lines (heard_in r.rounds)
+pub reached_rows : (world : World) (r : IsReached world) → committed_lines world.events ≡ row_lines (found_in r.taken_lines)
 reached_rows world r =
-    ap committed_lines r.events ∙ (committed_append (first_events world.stream ++ rounds_events world.stream none_counted r.rounds) (ending_events world.is_over) ∙ (ap (λ (ls : List (List ℕ)). committed_lines (first_events world.stream ++ rounds_events world.stream none_counted r.rounds) ++ ls) (ending_commits_nothing world.is_over) ∙ (append-nil (committed_lines (first_events world.stream ++ rounds_events world.stream none_counted r.rounds)) ∙ (committed_append (first_events world.stream) (rounds_events world.stream none_counted r.rounds) ∙ committed_rounds world.stream none_counted r.rounds r.fits))))
+    ap committed_lines r.events ∙ (committed_append (first_events world.stream ++ all_taken_events world.stream none_counted r.taken_lines) (ending_events world.is_over) ∙ (ap (λ (ls : List (List ℕ)). committed_lines (first_events world.stream ++ all_taken_events world.stream none_counted r.taken_lines) ++ ls) (ending_commits_nothing world.is_over) ∙ (append-nil (committed_lines (first_events world.stream ++ all_taken_events world.stream none_counted r.taken_lines)) ∙ (committed_append (first_events world.stream) (all_taken_events world.stream none_counted r.taken_lines) ∙ committed_taken world.stream none_counted r.taken_lines r.fits))))
 
 -- and so many were counted
-pub counted_rows : (stream : List ℕ) (counted : Counted) (rounds : List Round) → AreRounds stream counted rounds → (counted_through counted rounds).records ≡ counted.records + length (row_lines (heard_in rounds))
+pub counted_rows : (stream : List ℕ) (counted : Counted) (taken_lines : List TakenLine) → AreTaken stream counted taken_lines → (counted_through counted taken_lines).records ≡ counted.records + length (row_lines (found_in taken_lines))
 counted_rows stream counted [] are = sym (add-zero counted.records)
-counted_rows stream counted (record_round line content ∷ rounds) are = let more = counted_rows stream (counted_after counted (record_round line content)) rounds are.1 in omega (arith, more)
-counted_rows stream counted (state_round line state echo ∷ rounds) are = counted_rows stream (counted_after counted (state_round line state echo)) rounds are.1
-counted_rows stream counted (other_round line found ∷ rounds) are = counted_rows stream counted rounds are.1 ∙ ap (λ (ls : List (List ℕ)). counted.records + length ls) (sym (no_row line found (heard_in rounds) are.0.passed))
+counted_rows stream counted (record_line line content ∷ taken_lines) are = let more = counted_rows stream (counted_after counted (record_line line content)) taken_lines are.1 in omega (arith, more)
+counted_rows stream counted (state_line line state echo ∷ taken_lines) are = counted_rows stream (counted_after counted (state_line line state echo)) taken_lines are.1
+counted_rows stream counted (other_line line found ∷ taken_lines) are = counted_rows stream counted taken_lines are.1 ∙ ap (λ (ls : List (List ℕ)). counted.records + length ls) (sym (no_row line found (found_in taken_lines) are.0.passed))
 
 pub reached_count : (world : World) → IsReached world → world.counted.records ≡ length (committed_lines world.events)
-reached_count world r = ap (λ (c : Counted). c.records) r.counted ∙ (counted_rows world.stream none_counted r.rounds r.fits ∙ (zero-add (length (row_lines (heard_in r.rounds))) ∙ ap length (sym (reached_rows world r))))
+reached_count world r = ap (λ (c : Counted). c.records) r.counted ∙ (counted_rows world.stream none_counted r.taken_lines r.fits ∙ (zero-add (length (row_lines (found_in r.taken_lines))) ∙ ap length (sym (reached_rows world r))))

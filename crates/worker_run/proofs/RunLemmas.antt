@@ -13,33 +13,33 @@ use Rattle.worker_run.specs.Ends.{status_of}
 use Rattle.json_fields.specs.Answer.{IsOnly}
 use Rattle.worker_run.specs.Words.{TextNames}
 use Rattle.worker_run.specs.Catalog.{IsCatalog}
-use Rattle.worker_run.specs.Rounds.{Round, heard_in, Counted, none_counted, counted_through, IsUnbuilt}
-use Rattle.worker_run.specs.World.{World, begun, first_events, rounds_events, last_events}
+use Rattle.worker_run.specs.TakenLines.{TakenLine, found_in, Counted, none_counted, counted_through, IsUnbuilt}
+use Rattle.worker_run.specs.World.{World, begun, first_events, all_taken_events, last_events}
 use Rattle.worker_run.specs.Output.{said_lines, row_lines, end_lines, attempt_lines, committed_lines, usage_line, status_line}
 use Rattle.worker_run.specs.Reading.{TakesLines, EndsAs, LeavesAs, Reads, ReadsSome, EndsBehind, IsAttempt, Attempted, IsFront, StopsShort, HasTextNamed, ComesTo, WouldSay, IsFrontOfBody, IsFrontOfAll, SaidBody, SaidPart, SaysBody, SaidAll, SaidSome, Says, IsReadFault, IsSayFault, StatusSaid, SaysLast, IsOnlyEnd, EndsWithStatus, NothingUnbuilt, IsOkOrNoMemory, HasNoTextNamed, LacksMessages, WritesOut, EndsWithoutCommand, IsUsageEnd}
-use Rattle.worker_run.proofs.OutputLemmas.{committed_append, committed_rounds}
+use Rattle.worker_run.proofs.OutputLemmas.{committed_append, committed_taken}
 use Rattle.worker_run.proofs.OneReading.{SameEnd, one_attempt, some_lines_front, one_outcome}
 
 -- an attempt over a world that has begun
 
-ends_behind : (stream : List ℕ) (through : World) (rounds : List Round) (end : End) → through.stream ≡ stream → through.counted ≡ counted_through none_counted rounds → through.number ≡ length rounds → EndsAs end through → EndsBehind stream rounds through.lines end
-ends_behind stream through rounds how.Ok s c n h = h
-ends_behind stream through rounds how.Usage s c n h = h
-ends_behind stream through rounds how.FileFault s c n h = h
-ends_behind stream through rounds how.SayFault s c n h = h
-ends_behind stream through rounds (how.Unbuilt line) s c n h = (h.0, h.1, h.2, subst (λ (k : Counted). IsUnbuilt stream k.since h.0) c (subst (λ (t : List ℕ). IsUnbuilt t through.counted.since h.0) s h.3), h.4 ∙ ap (λ (m : ℕ). m + 1) n)
-ends_behind stream through rounds how.NoMemory s c n h = h
+ends_behind : (stream : List ℕ) (through : World) (taken_lines : List TakenLine) (end : End) → through.stream ≡ stream → through.counted ≡ counted_through none_counted taken_lines → through.number ≡ length taken_lines → EndsAs end through → EndsBehind stream taken_lines through.lines end
+ends_behind stream through taken_lines how.Ok s c n h = h
+ends_behind stream through taken_lines how.Usage s c n h = h
+ends_behind stream through taken_lines how.FileFault s c n h = h
+ends_behind stream through taken_lines how.SayFault s c n h = h
+ends_behind stream through taken_lines (how.Unbuilt line) s c n h = (h.0, h.1, h.2, subst (λ (k : Counted). IsUnbuilt stream k.since h.0) c (subst (λ (t : List ℕ). IsUnbuilt t through.counted.since h.0) s h.3), h.4 ∙ ap (λ (m : ℕ). m + 1) n)
+ends_behind stream through taken_lines how.NoMemory s c n h = h
 
-pub attempt_of : (text stream : List ℕ) (old new : World) (end : End) (before now : Option (List (List ℕ))) → old ≡ begun text stream → (reads : Reads old new end before now) → IsAttempt text stream end (attempt_lines stream (heard_in reads.says.rounds) end)
+pub attempt_of : (text stream : List ℕ) (old new : World) (end : End) (before now : Option (List (List ℕ))) → old ≡ begun text stream → (reads : Reads old new end before now) → IsAttempt text stream end (attempt_lines stream (found_in reads.says.taken_lines) end)
 attempt_of text stream old new end before now begins reads =
-    let takes : TakesLines (begun text stream) reads.through reads.says.rounds = subst (λ (w : World). TakesLines w reads.through reads.says.rounds) begins reads.says.takes in
+    let takes : TakesLines (begun text stream) reads.through reads.says.taken_lines = subst (λ (w : World). TakesLines w reads.through reads.says.taken_lines) begins reads.says.takes in
     record {
       reads = record {
-        rounds = reads.says.rounds;
+        taken_lines = reads.says.taken_lines;
         rest = reads.through.lines;
         lines = takes.lines;
         fits = takes.fits;
-        ends = ends_behind stream reads.through reads.says.rounds end takes.stream takes.counted (takes.number ∙ zero-add (length reads.says.rounds)) reads.ends;
+        ends = ends_behind stream reads.through reads.says.taken_lines end takes.stream takes.counted (takes.number ∙ zero-add (length reads.says.taken_lines)) reads.ends;
       };
       says = refl;
     }
@@ -67,16 +67,16 @@ stream_left through new (how.Unbuilt line) leaves = ap (λ (w : World). w.stream
 stream_left through new how.NoMemory leaves = absurd leaves
 
 -- the lines at the end of an attempt, by its messages
-end_is : (text stream : List ℕ) (old new : World) (end : End) (before mid : Option (List (List ℕ))) → old ≡ begun text stream → (reads : Reads old new end before mid) → end_lines new.stream (committed_lines new.events) end ≡ end_lines stream (row_lines (heard_in reads.says.rounds)) end
+end_is : (text stream : List ℕ) (old new : World) (end : End) (before mid : Option (List (List ℕ))) → old ≡ begun text stream → (reads : Reads old new end before mid) → end_lines new.stream (committed_lines new.events) end ≡ end_lines stream (row_lines (found_in reads.says.taken_lines)) end
 end_is text stream old new end before mid begins reads =
-    let takes : TakesLines (begun text stream) reads.through reads.says.rounds = subst (λ (w : World). TakesLines w reads.through reads.says.rounds) begins reads.says.takes in
-    ap (λ (s : List ℕ). end_lines s (committed_lines new.events) end) (stream_left reads.through new end reads.leaves ∙ takes.stream) ∙ ap (λ (rows : List (List ℕ)). end_lines stream rows end) (rows_left reads.through new end reads.leaves ∙ (ap committed_lines takes.events ∙ (committed_append (first_events stream) (rounds_events stream none_counted reads.says.rounds) ∙ committed_rounds stream none_counted reads.says.rounds takes.fits)))
+    let takes : TakesLines (begun text stream) reads.through reads.says.taken_lines = subst (λ (w : World). TakesLines w reads.through reads.says.taken_lines) begins reads.says.takes in
+    ap (λ (s : List ℕ). end_lines s (committed_lines new.events) end) (stream_left reads.through new end reads.leaves ∙ takes.stream) ∙ ap (λ (rows : List (List ℕ)). end_lines stream rows end) (rows_left reads.through new end reads.leaves ∙ (ap committed_lines takes.events ∙ (committed_append (first_events stream) (all_taken_events stream none_counted reads.says.taken_lines) ∙ committed_taken stream none_counted reads.says.taken_lines takes.fits)))
 
 pub attempted : (text stream : List ℕ) (old new : World) (end : End) (before mid now : Option (List (List ℕ))) → old ≡ begun text stream → Reads old new end before mid → now ≡ told_more (end_lines new.stream (committed_lines new.events) end) mid → Attempted text stream end before now
 attempted text stream old new end before mid now begins reads said = record {
-  lines = attempt_lines stream (heard_in reads.says.rounds) end;
+  lines = attempt_lines stream (found_in reads.says.taken_lines) end;
   is = attempt_of text stream old new end before mid begins reads;
-  said = told_both (said_lines (heard_in reads.says.rounds)) (end_lines stream (row_lines (heard_in reads.says.rounds)) end) before mid now reads.says.said (said ∙ ap (λ (ls : List (List ℕ)). told_more ls mid) (end_is text stream old new end before mid begins reads));
+  said = told_both (said_lines (found_in reads.says.taken_lines)) (end_lines stream (row_lines (found_in reads.says.taken_lines)) end) before mid now reads.says.said (said ∙ ap (λ (ls : List (List ℕ)). told_more ls mid) (end_is text stream old new end before mid begins reads));
 }
 
 -- an attempt that stops short
@@ -86,27 +86,27 @@ short_none text stream before now same = record { front = []; said = same ∙ sy
 
 pub short_lines : (text stream : List ℕ) (old : World) (before now : Option (List (List ℕ))) → old ≡ begun text stream → ReadsSome old before now → StopsShort text stream before now
 short_lines text stream old before now begins some =
-    let takes : TakesLines (begun text stream) some.through some.says.rounds = subst (λ (w : World). TakesLines w some.through some.says.rounds) begins some.says.takes in
+    let takes : TakesLines (begun text stream) some.through some.says.taken_lines = subst (λ (w : World). TakesLines w some.through some.says.taken_lines) begins some.says.takes in
     record {
-      front = said_lines (heard_in some.says.rounds);
+      front = said_lines (found_in some.says.taken_lines);
       said = some.says.said;
-      is = some_lines_front text stream some.says.rounds some.through.lines takes.fits takes.lines;
+      is = some_lines_front text stream some.says.taken_lines some.through.lines takes.fits takes.lines;
     }
 
 pub short_end : (text stream : List ℕ) (old new : World) (end : End) (before mid now : Option (List (List ℕ))) → old ≡ begun text stream → Reads old new end before mid → GrewByFront (end_lines new.stream (committed_lines new.events) end) mid now → StopsShort text stream before now
 short_end text stream old new end before mid now begins reads grew = short
   where
-    ends : GrewByFront (end_lines stream (row_lines (heard_in reads.says.rounds)) end) mid now
+    ends : GrewByFront (end_lines stream (row_lines (found_in reads.says.taken_lines)) end) mid now
     ends = subst (λ (ls : List (List ℕ)). GrewByFront ls mid now) (end_is text stream old new end before mid begins reads) grew
 
-    whole : GrewByFront (attempt_lines stream (heard_in reads.says.rounds) end) before now
-    whole = front_second (said_lines (heard_in reads.says.rounds)) (end_lines stream (row_lines (heard_in reads.says.rounds)) end) before mid now reads.says.said ends
+    whole : GrewByFront (attempt_lines stream (found_in reads.says.taken_lines) end) before now
+    whole = front_second (said_lines (found_in reads.says.taken_lines)) (end_lines stream (row_lines (found_in reads.says.taken_lines)) end) before mid now reads.says.said ends
 
     short : StopsShort text stream before now
     short = record {
       front = whole.front;
       said = whole.grew;
-      is = λ other lines is. record { rest = whole.rest; splits = sym (one_attempt text stream end other (attempt_lines stream (heard_in reads.says.rounds) end) lines (attempt_of text stream old new end before mid begins reads) is).says ∙ whole.splits };
+      is = λ other lines is. record { rest = whole.rest; splits = sym (one_attempt text stream end other (attempt_lines stream (found_in reads.says.taken_lines) end) lines (attempt_of text stream old new end before mid begins reads) is).says ∙ whole.splits };
     }
 
 -- the body of a run

@@ -19,13 +19,13 @@ use Rattle.airbyte_message.specs.declared.message.StateKind.{StateKind}
 use Rattle.airbyte_message.specs.declared.message.StateKind.TheVariants as kind
 use Rattle.airbyte_message.specs.declared.message.TraceMsg.{TraceMsg}
 use Rattle.airbyte_message.specs.declared.message.TraceMsg.TheVariants as trace
-use Rattle.worker_run.specs.Rounds.{Heard, Round, record_round, state_round, other_round, round_line, heard_of, Counted, none_counted, counted_after, counted_through, Fits, FitsState, AreRounds, KindIsOf, IsPassedTrace, IsPassedOver}
+use Rattle.worker_run.specs.TakenLines.{FoundLine, TakenLine, record_line, state_line, other_line, taken_text, found_of, Counted, none_counted, counted_after, counted_through, Fits, FitsState, AreTaken, KindIsOf, IsPassedTrace, IsPassedOver}
 use Rattle.worker_run.specs.Store.{store_text}
-use Rattle.worker_run.specs.World.{World, row_of, stream_plan, attempt_plan, first_events, round_events, rounds_events, last_events, record_events, state_events}
+use Rattle.worker_run.specs.World.{World, row_of, stream_plan, attempt_plan, first_events, taken_events, all_taken_events, last_events, record_events, state_events}
 use Rattle.worker_run.specs.EventParts.{read_line, given_line, got_line, rows_of}
 use Rattle.worker_run.specs.Reached.{IsReached, ending_events}
-use Rattle.worker_run.specs.SafeSync.{attempt_after, attempt, heard_text, PassesKind, PassesTrace, Passes, ArePassed, GivesPassed, ReadState, states_behind, Takes, Covers, StartsSafely, SavesNothing, SavesTaken, IsSafeSoFar, IsSafeSync}
-use Rattle.worker_run.proofs.ReadingLemmas.{counted_through-more, AreRounds-more, rounds_events-more}
+use Rattle.worker_run.specs.SafeSync.{attempt_after, attempt, found_text, PassesKind, PassesTrace, Passes, ArePassed, GivesPassed, ReadState, states_behind, Takes, Covers, StartsSafely, SavesNothing, SavesTaken, IsSafeSoFar, IsSafeSync}
+use Rattle.worker_run.proofs.ReadingLemmas.{counted_through-more, AreTaken-more, all_taken_events-more}
 
 -- lists that end in one element more
 
@@ -93,17 +93,17 @@ gives_more events event goes_on = ap (λ (es : List Event). filter_map given_lin
 
 -- the lines that are passed on, of lines that were taken
 
-abbrev pub passed_in : List Round → List Heard
+abbrev pub passed_in : List TakenLine → List FoundLine
 passed_in [] = []
-passed_in (record_round line content ∷ rounds) = heard_of (record_round line content) ∷ passed_in rounds
-passed_in (state_round line state echo ∷ rounds) = heard_of (state_round line state echo) ∷ passed_in rounds
-passed_in (other_round line found ∷ rounds) = passed_in rounds
+passed_in (record_line line content ∷ taken_lines) = found_of (record_line line content) ∷ passed_in taken_lines
+passed_in (state_line line state echo ∷ taken_lines) = found_of (state_line line state echo) ∷ passed_in taken_lines
+passed_in (other_line line found ∷ taken_lines) = passed_in taken_lines
 
-passed_append : (a b : List Round) → passed_in (a ++ b) ≡ passed_in a ++ passed_in b
+passed_append : (a b : List TakenLine) → passed_in (a ++ b) ≡ passed_in a ++ passed_in b
 passed_append [] b = refl
-passed_append (record_round line content ∷ a) b = ap (λ (hs : List Heard). heard_of (record_round line content) ∷ hs) (passed_append a b)
-passed_append (state_round line state echo ∷ a) b = ap (λ (hs : List Heard). heard_of (state_round line state echo) ∷ hs) (passed_append a b)
-passed_append (other_round line found ∷ a) b = passed_append a b
+passed_append (record_line line content ∷ a) b = ap (λ (hs : List FoundLine). found_of (record_line line content) ∷ hs) (passed_append a b)
+passed_append (state_line line state echo ∷ a) b = ap (λ (hs : List FoundLine). found_of (state_line line state echo) ∷ hs) (passed_append a b)
+passed_append (other_line line found ∷ a) b = passed_append a b
 
 kind_passes : (stream : List ℕ) (what : StateKind) → KindIsOf stream what → PassesKind stream what
 kind_passes stream (kind.Stream id blob) is = is
@@ -127,34 +127,34 @@ other_stays stream (Some (message.Catalog catalog)) over passes = passes
 other_stays stream (Some (message.Trace content)) over passes = trace_stays stream content over passes
 other_stays stream (Some (message.Control control)) over passes = passes
 
-are_passed : (stream : List ℕ) (counted : Counted) (rounds : List Round) → AreRounds stream counted rounds → ArePassed stream (map round_line rounds) (passed_in rounds)
+are_passed : (stream : List ℕ) (counted : Counted) (taken_lines : List TakenLine) → AreTaken stream counted taken_lines → ArePassed stream (map taken_text taken_lines) (passed_in taken_lines)
 are_passed stream counted [] are = refl
-are_passed stream counted (record_round line content ∷ rounds) are = (Some (message.Rec content), are.0.message, passed_in rounds, are_passed stream (counted_after counted (record_round line content)) rounds are.1, inl (are.0.taken, refl))
-are_passed stream counted (state_round line state echo ∷ rounds) are = (Some (message.State state), are.0.message, passed_in rounds, are_passed stream (counted_after counted (state_round line state echo)) rounds are.1, inl (kind_passes stream state.kind are.0.taken.kind, refl))
-are_passed stream counted (other_round line found ∷ rounds) are = (found, are.0.message, passed_in rounds, are_passed stream counted rounds are.1, inr (other_stays stream found are.0.passed, refl))
+are_passed stream counted (record_line line content ∷ taken_lines) are = (Some (message.Rec content), are.0.message, passed_in taken_lines, are_passed stream (counted_after counted (record_line line content)) taken_lines are.1, inl (are.0.taken, refl))
+are_passed stream counted (state_line line state echo ∷ taken_lines) are = (Some (message.State state), are.0.message, passed_in taken_lines, are_passed stream (counted_after counted (state_line line state echo)) taken_lines are.1, inl (kind_passes stream state.kind are.0.taken.kind, refl))
+are_passed stream counted (other_line line found ∷ taken_lines) are = (found, are.0.message, passed_in taken_lines, are_passed stream counted taken_lines are.1, inr (other_stays stream found are.0.passed, refl))
 
 -- an event that is no start and no save
 pub record IsPlain (event : Event) : Type 0 where
   pub no_start : (plan : AttemptPlan) → event ≡ Started plan → ⊥
   pub no_save : (text : List ℕ) → event ≡ Saved text → ⊥
 
--- what stands so far: the lines of these rounds were read, and those that are passed on were given but for the rest
-pub record IsAt (stream : List ℕ) (rounds : List Round) (events : List Event) (rest : List (List ℕ)) : Type 0 where
-  pub fits : AreRounds stream none_counted rounds
-  pub read : reads events ≡ map round_line rounds
-  pub given : map heard_text (passed_in rounds) ≡ gives events ++ rest
+-- what stands so far: the lines of these taken_lines were read, and those that are passed on were given but for the rest
+pub record IsAt (stream : List ℕ) (taken_lines : List TakenLine) (events : List Event) (rest : List (List ℕ)) : Type 0 where
+  pub fits : AreTaken stream none_counted taken_lines
+  pub read : reads events ≡ map taken_text taken_lines
+  pub given : map found_text (passed_in taken_lines) ≡ gives events ++ rest
 
-gives_passed : (stream : List ℕ) (rounds : List Round) (events : List Event) (rest : List (List ℕ)) → IsAt stream rounds events rest → GivesPassed stream (reads events) (gives events)
-gives_passed stream rounds events rest at = record {
-  passed = passed_in rounds;
-  are = subst (λ (ls : List (List ℕ)). ArePassed stream ls (passed_in rounds)) (sym at.read) (are_passed stream none_counted rounds at.fits);
+gives_passed : (stream : List ℕ) (taken_lines : List TakenLine) (events : List Event) (rest : List (List ℕ)) → IsAt stream taken_lines events rest → GivesPassed stream (reads events) (gives events)
+gives_passed stream taken_lines events rest at = record {
+  passed = passed_in taken_lines;
+  are = subst (λ (ls : List (List ℕ)). ArePassed stream ls (passed_in taken_lines)) (sym at.read) (are_passed stream none_counted taken_lines at.fits);
   rest = rest;
   splits = at.given;
 }
 
-plain_so_far : (stream : List ℕ) (rounds : List Round) (events : List Event) (event : Event) (rest : List (List ℕ)) → IsPlain event → IsAt stream rounds (events ++ event ∷ []) rest → IsSafeSoFar stream (events ++ event ∷ [])
-plain_so_far stream rounds events event rest plain at = record {
-  given = gives_passed stream rounds (events ++ event ∷ []) rest at;
+plain_so_far : (stream : List ℕ) (taken_lines : List TakenLine) (events : List Event) (event : Event) (rest : List (List ℕ)) → IsPlain event → IsAt stream taken_lines (events ++ event ∷ []) rest → IsSafeSoFar stream (events ++ event ∷ [])
+plain_so_far stream taken_lines events event rest plain at = record {
+  given = gives_passed stream taken_lines (events ++ event ∷ []) rest at;
   started = λ before plan e. absurd (plain.no_start plan (more_last events before event (Started plan) e));
   saved = λ before text e. absurd (plain.no_save text (more_last events before event (Saved text) e));
 }
@@ -167,25 +167,25 @@ pub record IsNeutral (event : Event) : Type 0 where
   pub not_given : filter_map given_line (event ∷ []) ≡ []
 
 -- the events so far are safe, and all lines that are passed on were given
-pub record IsSafeEven (stream : List ℕ) (rounds : List Round) (events : List Event) : Type 0 where
+pub record IsSafeEven (stream : List ℕ) (taken_lines : List TakenLine) (events : List Event) : Type 0 where
   pub safe : IsSafeSync stream events
-  pub at : IsAt stream rounds events []
+  pub at : IsAt stream taken_lines events []
 
-stays_at : (stream : List ℕ) (rounds : List Round) (events : List Event) (event : Event) → attempt_after (attempt events) event ≡ attempt events ++ event ∷ [] → filter_map read_line (event ∷ []) ≡ [] → filter_map given_line (event ∷ []) ≡ [] → IsAt stream rounds events [] → IsAt stream rounds (events ++ event ∷ []) []
-stays_at stream rounds events event goes_on not_read not_given at = record {
+stays_at : (stream : List ℕ) (taken_lines : List TakenLine) (events : List Event) (event : Event) → attempt_after (attempt events) event ≡ attempt events ++ event ∷ [] → filter_map read_line (event ∷ []) ≡ [] → filter_map given_line (event ∷ []) ≡ [] → IsAt stream taken_lines events [] → IsAt stream taken_lines (events ++ event ∷ []) []
+stays_at stream taken_lines events event goes_on not_read not_given at = record {
   fits = at.fits;
   read = reads_more events event goes_on ∙ (ap (λ (ls : List (List ℕ)). reads events ++ ls) not_read ∙ (append-nil (reads events) ∙ at.read));
   given = at.given ∙ sym (ap (λ (ls : List (List ℕ)). ls ++ []) (gives_more events event goes_on ∙ (ap (λ (ls : List (List ℕ)). gives events ++ ls) not_given ∙ append-nil (gives events))));
 }
 
-pub neutral_more : (stream : List ℕ) (rounds : List Round) (events : List Event) (event : Event) → IsNeutral event → IsSafeEven stream rounds events → IsSafeEven stream rounds (events ++ event ∷ [])
-neutral_more stream rounds events event neutral s = record {
-  safe = safe_more stream events event s.safe (plain_so_far stream rounds events event [] neutral.plain at);
+pub neutral_more : (stream : List ℕ) (taken_lines : List TakenLine) (events : List Event) (event : Event) → IsNeutral event → IsSafeEven stream taken_lines events → IsSafeEven stream taken_lines (events ++ event ∷ [])
+neutral_more stream taken_lines events event neutral s = record {
+  safe = safe_more stream events event s.safe (plain_so_far stream taken_lines events event [] neutral.plain at);
   at = at;
 }
   where
-    at : IsAt stream rounds (events ++ event ∷ []) []
-    at = stays_at stream rounds events event (neutral.goes_on (attempt events)) neutral.not_read neutral.not_given s.at
+    at : IsAt stream taken_lines (events ++ event ∷ []) []
+    at = stays_at stream taken_lines events event (neutral.goes_on (attempt events)) neutral.not_read neutral.not_given s.at
 
 took_neutral : (line : List ℕ) → IsNeutral (Took line)
 took_neutral line = record { plain = record { no_start = λ plan e. cc; no_save = λ text e. cc }; goes_on = λ events. refl; not_read = refl; not_given = refl }
@@ -201,14 +201,14 @@ got_neutral line = record { plain = record { no_start = λ plan e. cc; no_save =
 
 -- a line is read
 
-read_lines : (rounds : List Round) (round : Round) (events : List Event) → reads events ≡ map round_line rounds → reads (events ++ ReadLine (round_line round) ∷ []) ≡ map round_line (rounds ++ round ∷ [])
-read_lines rounds round events read = reads_more events (ReadLine (round_line round)) refl ∙ (ap (λ (ls : List (List ℕ)). ls ++ round_line round ∷ []) read ∙ sym (map-append round_line rounds (round ∷ [])))
+read_lines : (taken_lines : List TakenLine) (taken_line : TakenLine) (events : List Event) → reads events ≡ map taken_text taken_lines → reads (events ++ ReadLine (taken_text taken_line) ∷ []) ≡ map taken_text (taken_lines ++ taken_line ∷ [])
+read_lines taken_lines taken_line events read = reads_more events (ReadLine (taken_text taken_line)) refl ∙ (ap (λ (ls : List (List ℕ)). ls ++ taken_text taken_line ∷ []) read ∙ sym (map-append taken_text taken_lines (taken_line ∷ [])))
 
 read_gives : (line : List ℕ) (events : List Event) → gives (events ++ ReadLine line ∷ []) ≡ gives events
 read_gives line events = gives_more events (ReadLine line) refl ∙ append-nil (gives events)
 
-given_so_far : (stream : List ℕ) (rounds : List Round) (events : List Event) → IsAt stream rounds events [] → map heard_text (passed_in rounds) ≡ gives events
-given_so_far stream rounds events at = at.given ∙ append-nil (gives events)
+given_so_far : (stream : List ℕ) (taken_lines : List TakenLine) (events : List Event) → IsAt stream taken_lines events [] → map found_text (passed_in taken_lines) ≡ gives events
+given_so_far stream taken_lines events at = at.given ∙ append-nil (gives events)
 
 read_plain : (line : List ℕ) → IsPlain (ReadLine line)
 read_plain line = record { no_start = λ plan e. cc; no_save = λ text e. cc }
@@ -217,60 +217,60 @@ given_plain : (line : List ℕ) → IsPlain (Given line)
 given_plain line = record { no_start = λ plan e. cc; no_save = λ text e. cc }
 
 -- and passed over
-pub other_more : (stream : List ℕ) (rounds : List Round) (round : Round) (events : List Event) → AreRounds stream none_counted (rounds ++ round ∷ []) → passed_in (round ∷ []) ≡ [] → IsSafeEven stream rounds events → IsSafeEven stream (rounds ++ round ∷ []) (events ++ ReadLine (round_line round) ∷ [])
-other_more stream rounds round events fits over s = record {
-  safe = safe_more stream events (ReadLine (round_line round)) s.safe (plain_so_far stream (rounds ++ round ∷ []) events (ReadLine (round_line round)) [] (read_plain (round_line round)) at);
+pub other_more : (stream : List ℕ) (taken_lines : List TakenLine) (taken_line : TakenLine) (events : List Event) → AreTaken stream none_counted (taken_lines ++ taken_line ∷ []) → passed_in (taken_line ∷ []) ≡ [] → IsSafeEven stream taken_lines events → IsSafeEven stream (taken_lines ++ taken_line ∷ []) (events ++ ReadLine (taken_text taken_line) ∷ [])
+other_more stream taken_lines taken_line events fits over s = record {
+  safe = safe_more stream events (ReadLine (taken_text taken_line)) s.safe (plain_so_far stream (taken_lines ++ taken_line ∷ []) events (ReadLine (taken_text taken_line)) [] (read_plain (taken_text taken_line)) at);
   at = at;
 }
   where
-    at : IsAt stream (rounds ++ round ∷ []) (events ++ ReadLine (round_line round) ∷ []) []
+    at : IsAt stream (taken_lines ++ taken_line ∷ []) (events ++ ReadLine (taken_text taken_line) ∷ []) []
     at = record {
       fits = fits;
-      read = read_lines rounds round events s.at.read;
-      given = ap (λ (hs : List Heard). map heard_text hs) (passed_append rounds (round ∷ []) ∙ (ap (λ (hs : List Heard). passed_in rounds ++ hs) over ∙ append-nil (passed_in rounds))) ∙ (given_so_far stream rounds events s.at ∙ sym (append-nil (gives (events ++ ReadLine (round_line round) ∷ [])) ∙ read_gives (round_line round) events));
+      read = read_lines taken_lines taken_line events s.at.read;
+      given = ap (λ (hs : List FoundLine). map found_text hs) (passed_append taken_lines (taken_line ∷ []) ∙ (ap (λ (hs : List FoundLine). passed_in taken_lines ++ hs) over ∙ append-nil (passed_in taken_lines))) ∙ (given_so_far stream taken_lines events s.at ∙ sym (append-nil (gives (events ++ ReadLine (taken_text taken_line) ∷ [])) ∙ read_gives (taken_text taken_line) events));
     }
 
 -- or given
-pub line_more : (stream : List ℕ) (rounds : List Round) (round : Round) (events : List Event) → AreRounds stream none_counted (rounds ++ round ∷ []) → passed_in (round ∷ []) ≡ heard_of round ∷ [] → IsSafeEven stream rounds events → IsSafeEven stream (rounds ++ round ∷ []) ((events ++ ReadLine (round_line round) ∷ []) ++ Given (round_line round) ∷ [])
-line_more stream rounds round events fits on s = record {
-  safe = safe_more stream (events ++ ReadLine (round_line round) ∷ []) (Given (round_line round)) read_safe (plain_so_far stream (rounds ++ round ∷ []) (events ++ ReadLine (round_line round) ∷ []) (Given (round_line round)) [] (given_plain (round_line round)) at);
+pub line_more : (stream : List ℕ) (taken_lines : List TakenLine) (taken_line : TakenLine) (events : List Event) → AreTaken stream none_counted (taken_lines ++ taken_line ∷ []) → passed_in (taken_line ∷ []) ≡ found_of taken_line ∷ [] → IsSafeEven stream taken_lines events → IsSafeEven stream (taken_lines ++ taken_line ∷ []) ((events ++ ReadLine (taken_text taken_line) ∷ []) ++ Given (taken_text taken_line) ∷ [])
+line_more stream taken_lines taken_line events fits on s = record {
+  safe = safe_more stream (events ++ ReadLine (taken_text taken_line) ∷ []) (Given (taken_text taken_line)) read_safe (plain_so_far stream (taken_lines ++ taken_line ∷ []) (events ++ ReadLine (taken_text taken_line) ∷ []) (Given (taken_text taken_line)) [] (given_plain (taken_text taken_line)) at);
   at = at;
 }
   where
-    all_given : map heard_text (passed_in (rounds ++ round ∷ [])) ≡ gives events ++ round_line round ∷ []
+    all_given : map found_text (passed_in (taken_lines ++ taken_line ∷ [])) ≡ gives events ++ taken_text taken_line ∷ []
     all_given =
-        ap (λ (hs : List Heard). map heard_text hs) (passed_append rounds (round ∷ []) ∙ ap (λ (hs : List Heard). passed_in rounds ++ hs) on) ∙ (map-append heard_text (passed_in rounds) (heard_of round ∷ []) ∙ ap (λ (ls : List (List ℕ)). ls ++ round_line round ∷ []) (given_so_far stream rounds events s.at))
+        ap (λ (hs : List FoundLine). map found_text hs) (passed_append taken_lines (taken_line ∷ []) ∙ ap (λ (hs : List FoundLine). passed_in taken_lines ++ hs) on) ∙ (map-append found_text (passed_in taken_lines) (found_of taken_line ∷ []) ∙ ap (λ (ls : List (List ℕ)). ls ++ taken_text taken_line ∷ []) (given_so_far stream taken_lines events s.at))
 
-    read_at : IsAt stream (rounds ++ round ∷ []) (events ++ ReadLine (round_line round) ∷ []) (round_line round ∷ [])
+    read_at : IsAt stream (taken_lines ++ taken_line ∷ []) (events ++ ReadLine (taken_text taken_line) ∷ []) (taken_text taken_line ∷ [])
     read_at = record {
       fits = fits;
-      read = read_lines rounds round events s.at.read;
-      given = all_given ∙ sym (ap (λ (ls : List (List ℕ)). ls ++ round_line round ∷ []) (read_gives (round_line round) events));
+      read = read_lines taken_lines taken_line events s.at.read;
+      given = all_given ∙ sym (ap (λ (ls : List (List ℕ)). ls ++ taken_text taken_line ∷ []) (read_gives (taken_text taken_line) events));
     }
 
-    read_safe : IsSafeSync stream (events ++ ReadLine (round_line round) ∷ [])
-    read_safe = safe_more stream events (ReadLine (round_line round)) s.safe (plain_so_far stream (rounds ++ round ∷ []) events (ReadLine (round_line round)) (round_line round ∷ []) (read_plain (round_line round)) read_at)
+    read_safe : IsSafeSync stream (events ++ ReadLine (taken_text taken_line) ∷ [])
+    read_safe = safe_more stream events (ReadLine (taken_text taken_line)) s.safe (plain_so_far stream (taken_lines ++ taken_line ∷ []) events (ReadLine (taken_text taken_line)) (taken_text taken_line ∷ []) (read_plain (taken_text taken_line)) read_at)
 
-    at : IsAt stream (rounds ++ round ∷ []) ((events ++ ReadLine (round_line round) ∷ []) ++ Given (round_line round) ∷ []) []
+    at : IsAt stream (taken_lines ++ taken_line ∷ []) ((events ++ ReadLine (taken_text taken_line) ∷ []) ++ Given (taken_text taken_line) ∷ []) []
     at = record {
       fits = fits;
-      read = reads_more (events ++ ReadLine (round_line round) ∷ []) (Given (round_line round)) refl ∙ (append-nil (reads (events ++ ReadLine (round_line round) ∷ [])) ∙ read_lines rounds round events s.at.read);
-      given = all_given ∙ sym (append-nil (gives ((events ++ ReadLine (round_line round) ∷ []) ++ Given (round_line round) ∷ [])) ∙ (gives_more (events ++ ReadLine (round_line round) ∷ []) (Given (round_line round)) refl ∙ ap (λ (ls : List (List ℕ)). ls ++ round_line round ∷ []) (read_gives (round_line round) events)));
+      read = reads_more (events ++ ReadLine (taken_text taken_line) ∷ []) (Given (taken_text taken_line)) refl ∙ (append-nil (reads (events ++ ReadLine (taken_text taken_line) ∷ [])) ∙ read_lines taken_lines taken_line events s.at.read);
+      given = all_given ∙ sym (append-nil (gives ((events ++ ReadLine (taken_text taken_line) ∷ []) ++ Given (taken_text taken_line) ∷ [])) ∙ (gives_more (events ++ ReadLine (taken_text taken_line) ∷ []) (Given (taken_text taken_line)) refl ∙ ap (λ (ls : List (List ℕ)). ls ++ taken_text taken_line ∷ []) (read_gives (taken_text taken_line) events)));
     }
 
 -- a state is saved
-pub save_more : (stream : List ℕ) (rounds : List Round) (events : List Event) (text : List ℕ) → IsSafeEven stream rounds events → SavesNothing stream events text ⊎ SavesTaken stream events text → IsSafeEven stream rounds (events ++ Saved text ∷ [])
-save_more stream rounds events text s saves = record {
+pub save_more : (stream : List ℕ) (taken_lines : List TakenLine) (events : List Event) (text : List ℕ) → IsSafeEven stream taken_lines events → SavesNothing stream events text ⊎ SavesTaken stream events text → IsSafeEven stream taken_lines (events ++ Saved text ∷ [])
+save_more stream taken_lines events text s saves = record {
   safe = safe_more stream events (Saved text) s.safe (record {
-    given = gives_passed stream rounds (events ++ Saved text ∷ []) [] at;
+    given = gives_passed stream taken_lines (events ++ Saved text ∷ []) [] at;
     started = λ before plan e. absurd (other plan (more_last events before (Saved text) (Started plan) e));
     saved = λ before other e. moved before other (more_front events before (Saved text) (Saved other) e) (same other (more_last events before (Saved text) (Saved other) e));
   });
   at = at;
 }
   where
-    at : IsAt stream rounds (events ++ Saved text ∷ []) []
-    at = stays_at stream rounds events (Saved text) refl refl refl s.at
+    at : IsAt stream taken_lines (events ++ Saved text ∷ []) []
+    at = stays_at stream taken_lines events (Saved text) refl refl refl s.at
 
     other : (plan : AttemptPlan) → Saved text ≡ Started plan → ⊥
     other plan e = cc
@@ -353,66 +353,66 @@ no_start_append [] more a b = b
 no_start_append (Started plan ∷ events) more a b = absurd a
 no_start_append (event ∷ events) more a b = no_start_append events more a b
 
-rounds_start_nothing : (stream : List ℕ) (counted : Counted) (rounds : List Round) → HasNoStart (rounds_events stream counted rounds)
-rounds_start_nothing stream counted [] = tt
-rounds_start_nothing stream counted (record_round line content ∷ rounds) = rounds_start_nothing stream (counted_after counted (record_round line content)) rounds
-rounds_start_nothing stream counted (state_round line state echo ∷ rounds) = rounds_start_nothing stream (counted_after counted (state_round line state echo)) rounds
-rounds_start_nothing stream counted (other_round line found ∷ rounds) = rounds_start_nothing stream counted rounds
+taken_start_nothing : (stream : List ℕ) (counted : Counted) (taken_lines : List TakenLine) → HasNoStart (all_taken_events stream counted taken_lines)
+taken_start_nothing stream counted [] = tt
+taken_start_nothing stream counted (record_line line content ∷ taken_lines) = taken_start_nothing stream (counted_after counted (record_line line content)) taken_lines
+taken_start_nothing stream counted (state_line line state echo ∷ taken_lines) = taken_start_nothing stream (counted_after counted (state_line line state echo)) taken_lines
+taken_start_nothing stream counted (other_line line found ∷ taken_lines) = taken_start_nothing stream counted taken_lines
 
 attempt_is : (stream : List ℕ) (events : List Event) → HasNoStart events → attempt (first_events stream ++ events) ≡ events
 attempt_is stream events none = attempt_behind [] events none
 
 -- the echoes of the states, and the records
-abbrev echoes_of : List Round → List (List ℕ)
+abbrev echoes_of : List TakenLine → List (List ℕ)
 echoes_of [] = []
-echoes_of (record_round line content ∷ rounds) = echoes_of rounds
-echoes_of (state_round line state echo ∷ rounds) = echo ∷ echoes_of rounds
-echoes_of (other_round line found ∷ rounds) = echoes_of rounds
+echoes_of (record_line line content ∷ taken_lines) = echoes_of taken_lines
+echoes_of (state_line line state echo ∷ taken_lines) = echo ∷ echoes_of taken_lines
+echoes_of (other_line line found ∷ taken_lines) = echoes_of taken_lines
 
-abbrev records_in : List Round → List RecordMsg
+abbrev records_in : List TakenLine → List RecordMsg
 records_in [] = []
-records_in (record_round line content ∷ rounds) = content ∷ records_in rounds
-records_in (state_round line state echo ∷ rounds) = records_in rounds
-records_in (other_round line found ∷ rounds) = records_in rounds
+records_in (record_line line content ∷ taken_lines) = content ∷ records_in taken_lines
+records_in (state_line line state echo ∷ taken_lines) = records_in taken_lines
+records_in (other_line line found ∷ taken_lines) = records_in taken_lines
 
-rounds_reads : (stream : List ℕ) (counted : Counted) (rounds : List Round) → filter_map read_line (rounds_events stream counted rounds) ≡ map round_line rounds
-rounds_reads stream counted [] = refl
-rounds_reads stream counted (record_round line content ∷ rounds) = ap (λ (ls : List (List ℕ)). line ∷ ls) (rounds_reads stream (counted_after counted (record_round line content)) rounds)
-rounds_reads stream counted (state_round line state echo ∷ rounds) = ap (λ (ls : List (List ℕ)). line ∷ ls) (rounds_reads stream (counted_after counted (state_round line state echo)) rounds)
-rounds_reads stream counted (other_round line found ∷ rounds) = ap (λ (ls : List (List ℕ)). line ∷ ls) (rounds_reads stream counted rounds)
+taken_reads : (stream : List ℕ) (counted : Counted) (taken_lines : List TakenLine) → filter_map read_line (all_taken_events stream counted taken_lines) ≡ map taken_text taken_lines
+taken_reads stream counted [] = refl
+taken_reads stream counted (record_line line content ∷ taken_lines) = ap (λ (ls : List (List ℕ)). line ∷ ls) (taken_reads stream (counted_after counted (record_line line content)) taken_lines)
+taken_reads stream counted (state_line line state echo ∷ taken_lines) = ap (λ (ls : List (List ℕ)). line ∷ ls) (taken_reads stream (counted_after counted (state_line line state echo)) taken_lines)
+taken_reads stream counted (other_line line found ∷ taken_lines) = ap (λ (ls : List (List ℕ)). line ∷ ls) (taken_reads stream counted taken_lines)
 
-rounds_got : (stream : List ℕ) (counted : Counted) (rounds : List Round) → filter_map got_line (rounds_events stream counted rounds) ≡ echoes_of rounds
-rounds_got stream counted [] = refl
-rounds_got stream counted (record_round line content ∷ rounds) = rounds_got stream (counted_after counted (record_round line content)) rounds
-rounds_got stream counted (state_round line state echo ∷ rounds) = ap (λ (ls : List (List ℕ)). echo ∷ ls) (rounds_got stream (counted_after counted (state_round line state echo)) rounds)
-rounds_got stream counted (other_round line found ∷ rounds) = rounds_got stream counted rounds
+taken_got : (stream : List ℕ) (counted : Counted) (taken_lines : List TakenLine) → filter_map got_line (all_taken_events stream counted taken_lines) ≡ echoes_of taken_lines
+taken_got stream counted [] = refl
+taken_got stream counted (record_line line content ∷ taken_lines) = taken_got stream (counted_after counted (record_line line content)) taken_lines
+taken_got stream counted (state_line line state echo ∷ taken_lines) = ap (λ (ls : List (List ℕ)). echo ∷ ls) (taken_got stream (counted_after counted (state_line line state echo)) taken_lines)
+taken_got stream counted (other_line line found ∷ taken_lines) = taken_got stream counted taken_lines
 
 -- the rows of these records, numbered from here on
 abbrev rows_from : ℕ → List RecordMsg → List RawRow
 rows_from number [] = []
 rows_from number (content ∷ contents) = row_of number content ∷ rows_from (number + 1) contents
 
-rounds_rows : (stream : List ℕ) (counted : Counted) (rounds : List Round) → flat_map rows_of (rounds_events stream counted rounds) ≡ rows_from counted.records (records_in rounds)
-rounds_rows stream counted [] = refl
-rounds_rows stream counted (record_round line content ∷ rounds) = ap (λ (rows : List RawRow). row_of counted.records content ∷ rows) (rounds_rows stream (counted_after counted (record_round line content)) rounds)
-rounds_rows stream counted (state_round line state echo ∷ rounds) = rounds_rows stream (counted_after counted (state_round line state echo)) rounds
-rounds_rows stream counted (other_round line found ∷ rounds) = rounds_rows stream counted rounds
+taken_rows : (stream : List ℕ) (counted : Counted) (taken_lines : List TakenLine) → flat_map rows_of (all_taken_events stream counted taken_lines) ≡ rows_from counted.records (records_in taken_lines)
+taken_rows stream counted [] = refl
+taken_rows stream counted (record_line line content ∷ taken_lines) = ap (λ (rows : List RawRow). row_of counted.records content ∷ rows) (taken_rows stream (counted_after counted (record_line line content)) taken_lines)
+taken_rows stream counted (state_line line state echo ∷ taken_lines) = taken_rows stream (counted_after counted (state_line line state echo)) taken_lines
+taken_rows stream counted (other_line line found ∷ taken_lines) = taken_rows stream counted taken_lines
 
 -- each echo takes its own state
-takes_all : (stream : List ℕ) (counted : Counted) (rounds : List Round) (before : List RecordMsg) → AreRounds stream counted rounds → Takes (echoes_of rounds) (states_behind before (passed_in rounds)) (states_behind before (passed_in rounds))
+takes_all : (stream : List ℕ) (counted : Counted) (taken_lines : List TakenLine) (before : List RecordMsg) → AreTaken stream counted taken_lines → Takes (echoes_of taken_lines) (states_behind before (passed_in taken_lines)) (states_behind before (passed_in taken_lines))
 takes_all stream counted [] before are = refl
-takes_all stream counted (record_round line content ∷ rounds) before are = takes_all stream (counted_after counted (record_round line content)) rounds (before ++ content ∷ []) are.1
-takes_all stream counted (state_round line state echo ∷ rounds) before are =
-    let behind = states_behind before (passed_in rounds) in
-    ([], record { state = state; before = before }, behind, behind, refl, tt, (counted.since, are.0.echoed), refl, takes_all stream (counted_after counted (state_round line state echo)) rounds before are.1)
-takes_all stream counted (other_round line found ∷ rounds) before are = takes_all stream counted rounds before are.1
+takes_all stream counted (record_line line content ∷ taken_lines) before are = takes_all stream (counted_after counted (record_line line content)) taken_lines (before ++ content ∷ []) are.1
+takes_all stream counted (state_line line state echo ∷ taken_lines) before are =
+    let behind = states_behind before (passed_in taken_lines) in
+    ([], record { state = state; before = before }, behind, behind, refl, tt, (counted.since, are.0.echoed), refl, takes_all stream (counted_after counted (state_line line state echo)) taken_lines before are.1)
+takes_all stream counted (other_line line found ∷ taken_lines) before are = takes_all stream counted taken_lines before are.1
 
-states_behind-state : (before : List RecordMsg) (rounds : List Round) (line : List ℕ) (state : StateMsg) (echo : List ℕ) → states_behind before (passed_in (rounds ++ state_round line state echo ∷ [])) ≡ states_behind before (passed_in rounds) ++ record { state = state; before = before ++ records_in rounds } ∷ []
+states_behind-state : (before : List RecordMsg) (taken_lines : List TakenLine) (line : List ℕ) (state : StateMsg) (echo : List ℕ) → states_behind before (passed_in (taken_lines ++ state_line line state echo ∷ [])) ≡ states_behind before (passed_in taken_lines) ++ record { state = state; before = before ++ records_in taken_lines } ∷ []
 states_behind-state before [] line state echo = ap (λ (contents : List RecordMsg). record { state = state; before = contents } ∷ []) (sym (append-nil before))
-states_behind-state before (record_round l content ∷ rounds) line state echo =
-    states_behind-state (before ++ content ∷ []) rounds line state echo ∙ ap (λ (contents : List RecordMsg). states_behind (before ++ content ∷ []) (passed_in rounds) ++ record { state = state; before = contents } ∷ []) (append_assoc before (content ∷ []) (records_in rounds))
-states_behind-state before (state_round l other e ∷ rounds) line state echo = ap (λ (states : List ReadState). record { state = other; before = before } ∷ states) (states_behind-state before rounds line state echo)
-states_behind-state before (other_round l found ∷ rounds) line state echo = states_behind-state before rounds line state echo
+states_behind-state before (record_line l content ∷ taken_lines) line state echo =
+    states_behind-state (before ++ content ∷ []) taken_lines line state echo ∙ ap (λ (contents : List RecordMsg). states_behind (before ++ content ∷ []) (passed_in taken_lines) ++ record { state = state; before = contents } ∷ []) (append_assoc before (content ∷ []) (records_in taken_lines))
+states_behind-state before (state_line l other e ∷ taken_lines) line state echo = ap (λ (states : List ReadState). record { state = other; before = before } ∷ states) (states_behind-state before taken_lines line state echo)
+states_behind-state before (other_line l found ∷ taken_lines) line state echo = states_behind-state before taken_lines line state echo
 
 -- each record stands among the rows under its number
 each_row : (rows : List RawRow) (state : StateMsg) (number : ℕ) (contents : List RecordMsg) → ((row : RawRow) → Contains (rows_from number contents) row → Contains rows row) → AllByRecursion (λ numbered. Covers state numbered.1 → Contains rows (row_of numbered.0 numbered.1)) (enumerate_from number contents)
@@ -430,62 +430,62 @@ abbrev front_of_state : List ℕ → List ℕ → List Event
 front_of_state line echo = ReadLine line ∷ Given line ∷ Took line ∷ Emitted echo ∷ Got echo ∷ []
 
 -- the text saves the state that the last echo takes, and the records before it stand committed
--- the rounds with a state behind them
-abbrev and_state : List Round → List ℕ → StateMsg → List ℕ → List Round
-and_state rounds line state echo = rounds ++ state_round line state echo ∷ []
+-- the taken_lines with a state behind them
+abbrev and_state : List TakenLine → List ℕ → StateMsg → List ℕ → List TakenLine
+and_state taken_lines line state echo = taken_lines ++ state_line line state echo ∷ []
 
-saves_state : (stream line echo : List ℕ) (rounds : List Round) (state : StateMsg) → AreRounds stream none_counted rounds → FitsState stream (counted_through none_counted rounds).since line state echo → SavesTaken stream (first_events stream ++ (rounds_events stream none_counted rounds ++ front_of_state line echo)) (store_text stream (Some state.object))
-saves_state stream line echo rounds state are fits = record {
-  passed = passed_in (and_state rounds line state echo);
-  are = subst (λ (ls : List (List ℕ)). ArePassed stream ls (passed_in (and_state rounds line state echo))) (sym read) (are_passed stream none_counted (and_state rounds line state echo) are_all);
-  taken = states_behind [] (passed_in rounds);
-  last = record { state = state; before = records_in rounds };
-  takes = subst (λ (ls : List (List ℕ)). Takes ls (states_behind [] (passed_in (and_state rounds line state echo))) (states_behind [] (passed_in rounds) ++ record { state = state; before = records_in rounds } ∷ [])) (sym got) (subst (λ (ss : List ReadState). Takes (echoes_of (and_state rounds line state echo)) (states_behind [] (passed_in (and_state rounds line state echo))) ss) states (takes_all stream none_counted (and_state rounds line state echo) [] are_all));
+saves_state : (stream line echo : List ℕ) (taken_lines : List TakenLine) (state : StateMsg) → AreTaken stream none_counted taken_lines → FitsState stream (counted_through none_counted taken_lines).since line state echo → SavesTaken stream (first_events stream ++ (all_taken_events stream none_counted taken_lines ++ front_of_state line echo)) (store_text stream (Some state.object))
+saves_state stream line echo taken_lines state are fits = record {
+  passed = passed_in (and_state taken_lines line state echo);
+  are = subst (λ (ls : List (List ℕ)). ArePassed stream ls (passed_in (and_state taken_lines line state echo))) (sym read) (are_passed stream none_counted (and_state taken_lines line state echo) are_all);
+  taken = states_behind [] (passed_in taken_lines);
+  last = record { state = state; before = records_in taken_lines };
+  takes = subst (λ (ls : List (List ℕ)). Takes ls (states_behind [] (passed_in (and_state taken_lines line state echo))) (states_behind [] (passed_in taken_lines) ++ record { state = state; before = records_in taken_lines } ∷ [])) (sym got) (subst (λ (ss : List ReadState). Takes (echoes_of (and_state taken_lines line state echo)) (states_behind [] (passed_in (and_state taken_lines line state echo))) ss) states (takes_all stream none_counted (and_state taken_lines line state echo) [] are_all));
   is = refl;
-  committed = each_row (flat_map rows_of (attempt (first_events stream ++ (rounds_events stream none_counted rounds ++ front_of_state line echo)))) state 0 (records_in rounds) (λ row within. subst (λ (rows : List RawRow). Contains rows row) (sym rows_are) within);
+  committed = each_row (flat_map rows_of (attempt (first_events stream ++ (all_taken_events stream none_counted taken_lines ++ front_of_state line echo)))) state 0 (records_in taken_lines) (λ row within. subst (λ (rows : List RawRow). Contains rows row) (sym rows_are) within);
 }
   where
-    are_all : AreRounds stream none_counted (rounds ++ state_round line state echo ∷ [])
-    are_all = AreRounds-more stream none_counted rounds (state_round line state echo) are fits
+    are_all : AreTaken stream none_counted (taken_lines ++ state_line line state echo ∷ [])
+    are_all = AreTaken-more stream none_counted taken_lines (state_line line state echo) are fits
 
-    attempt_events : attempt (first_events stream ++ (rounds_events stream none_counted rounds ++ front_of_state line echo)) ≡ rounds_events stream none_counted rounds ++ front_of_state line echo
-    attempt_events = attempt_is stream (rounds_events stream none_counted rounds ++ front_of_state line echo) (no_start_append (rounds_events stream none_counted rounds) (front_of_state line echo) (rounds_start_nothing stream none_counted rounds) tt)
+    attempt_events : attempt (first_events stream ++ (all_taken_events stream none_counted taken_lines ++ front_of_state line echo)) ≡ all_taken_events stream none_counted taken_lines ++ front_of_state line echo
+    attempt_events = attempt_is stream (all_taken_events stream none_counted taken_lines ++ front_of_state line echo) (no_start_append (all_taken_events stream none_counted taken_lines) (front_of_state line echo) (taken_start_nothing stream none_counted taken_lines) tt)
 
-    read : filter_map read_line (attempt (first_events stream ++ (rounds_events stream none_counted rounds ++ front_of_state line echo))) ≡ map round_line (rounds ++ state_round line state echo ∷ [])
+    read : filter_map read_line (attempt (first_events stream ++ (all_taken_events stream none_counted taken_lines ++ front_of_state line echo))) ≡ map taken_text (taken_lines ++ state_line line state echo ∷ [])
     read =
-        ap (λ (es : List Event). filter_map read_line es) attempt_events ∙ (filter_map-append read_line (rounds_events stream none_counted rounds) (front_of_state line echo) ∙ (ap (λ (ls : List (List ℕ)). ls ++ line ∷ []) (rounds_reads stream none_counted rounds) ∙ sym (map-append round_line rounds (state_round line state echo ∷ []))))
+        ap (λ (es : List Event). filter_map read_line es) attempt_events ∙ (filter_map-append read_line (all_taken_events stream none_counted taken_lines) (front_of_state line echo) ∙ (ap (λ (ls : List (List ℕ)). ls ++ line ∷ []) (taken_reads stream none_counted taken_lines) ∙ sym (map-append taken_text taken_lines (state_line line state echo ∷ []))))
 
-    got : filter_map got_line (attempt (first_events stream ++ (rounds_events stream none_counted rounds ++ front_of_state line echo))) ≡ echoes_of (rounds ++ state_round line state echo ∷ [])
+    got : filter_map got_line (attempt (first_events stream ++ (all_taken_events stream none_counted taken_lines ++ front_of_state line echo))) ≡ echoes_of (taken_lines ++ state_line line state echo ∷ [])
     got =
-        ap (λ (es : List Event). filter_map got_line es) attempt_events ∙ (filter_map-append got_line (rounds_events stream none_counted rounds) (front_of_state line echo) ∙ (ap (λ (ls : List (List ℕ)). ls ++ echo ∷ []) (rounds_got stream none_counted rounds) ∙ sym (echoes_more rounds)))
+        ap (λ (es : List Event). filter_map got_line es) attempt_events ∙ (filter_map-append got_line (all_taken_events stream none_counted taken_lines) (front_of_state line echo) ∙ (ap (λ (ls : List (List ℕ)). ls ++ echo ∷ []) (taken_got stream none_counted taken_lines) ∙ sym (echoes_more taken_lines)))
       where
-        echoes_more : (rs : List Round) → echoes_of (rs ++ state_round line state echo ∷ []) ≡ echoes_of rs ++ echo ∷ []
+        echoes_more : (rs : List TakenLine) → echoes_of (rs ++ state_line line state echo ∷ []) ≡ echoes_of rs ++ echo ∷ []
         echoes_more [] = refl
-        echoes_more (record_round l content ∷ rs) = echoes_more rs
-        echoes_more (state_round l s e ∷ rs) = ap (λ (ls : List (List ℕ)). e ∷ ls) (echoes_more rs)
-        echoes_more (other_round l found ∷ rs) = echoes_more rs
+        echoes_more (record_line l content ∷ rs) = echoes_more rs
+        echoes_more (state_line l s e ∷ rs) = ap (λ (ls : List (List ℕ)). e ∷ ls) (echoes_more rs)
+        echoes_more (other_line l found ∷ rs) = echoes_more rs
 
-    states : states_behind [] (passed_in (rounds ++ state_round line state echo ∷ [])) ≡ states_behind [] (passed_in rounds) ++ record { state = state; before = records_in rounds } ∷ []
-    states = states_behind-state [] rounds line state echo
+    states : states_behind [] (passed_in (taken_lines ++ state_line line state echo ∷ [])) ≡ states_behind [] (passed_in taken_lines) ++ record { state = state; before = records_in taken_lines } ∷ []
+    states = states_behind-state [] taken_lines line state echo
 
-    rows_are : flat_map rows_of (attempt (first_events stream ++ (rounds_events stream none_counted rounds ++ front_of_state line echo))) ≡ rows_from 0 (records_in rounds)
+    rows_are : flat_map rows_of (attempt (first_events stream ++ (all_taken_events stream none_counted taken_lines ++ front_of_state line echo))) ≡ rows_from 0 (records_in taken_lines)
     rows_are =
-        ap (λ (es : List Event). flat_map rows_of es) attempt_events ∙ (flat_map-append rows_of (rounds_events stream none_counted rounds) (front_of_state line echo) ∙ (append-nil (flat_map rows_of (rounds_events stream none_counted rounds)) ∙ rounds_rows stream none_counted rounds))
+        ap (λ (es : List Event). flat_map rows_of es) attempt_events ∙ (flat_map-append rows_of (all_taken_events stream none_counted taken_lines) (front_of_state line echo) ∙ (append-nil (flat_map rows_of (all_taken_events stream none_counted taken_lines)) ∙ taken_rows stream none_counted taken_lines))
 
 -- one line more, behind those that were taken
-record_more : (stream line : List ℕ) (rounds : List Round) (events : List Event) (number : ℕ) (content : RecordMsg) → AreRounds stream none_counted (rounds ++ record_round line content ∷ []) → IsSafeEven stream rounds events → IsSafeEven stream (rounds ++ record_round line content ∷ []) (events ++ record_events line number content)
-record_more stream line rounds events number content fits s =
-    subst (λ (es : List Event). IsSafeEven stream (rounds ++ record_round line content ∷ []) es) regrouped (neutral_more stream (rounds ++ record_round line content ∷ []) (((events ++ ReadLine line ∷ []) ++ Given line ∷ []) ++ Took line ∷ []) (Committed 0 (row_of number content ∷ [])) (committed_neutral 0 (row_of number content ∷ [])) (neutral_more stream (rounds ++ record_round line content ∷ []) ((events ++ ReadLine line ∷ []) ++ Given line ∷ []) (Took line) (took_neutral line) (line_more stream rounds (record_round line content) events fits refl s)))
+record_more : (stream line : List ℕ) (taken_lines : List TakenLine) (events : List Event) (number : ℕ) (content : RecordMsg) → AreTaken stream none_counted (taken_lines ++ record_line line content ∷ []) → IsSafeEven stream taken_lines events → IsSafeEven stream (taken_lines ++ record_line line content ∷ []) (events ++ record_events line number content)
+record_more stream line taken_lines events number content fits s =
+    subst (λ (es : List Event). IsSafeEven stream (taken_lines ++ record_line line content ∷ []) es) regrouped (neutral_more stream (taken_lines ++ record_line line content ∷ []) (((events ++ ReadLine line ∷ []) ++ Given line ∷ []) ++ Took line ∷ []) (Committed 0 (row_of number content ∷ [])) (committed_neutral 0 (row_of number content ∷ [])) (neutral_more stream (taken_lines ++ record_line line content ∷ []) ((events ++ ReadLine line ∷ []) ++ Given line ∷ []) (Took line) (took_neutral line) (line_more stream taken_lines (record_line line content) events fits refl s)))
   where
     regrouped : (((events ++ ReadLine line ∷ []) ++ Given line ∷ []) ++ Took line ∷ []) ++ Committed 0 (row_of number content ∷ []) ∷ [] ≡ events ++ record_events line number content
     regrouped = simp append_assoc
 
-state_more : (stream line echo : List ℕ) (rounds : List Round) (events : List Event) (state : StateMsg) → AreRounds stream none_counted (and_state rounds line state echo) → IsSafeEven stream rounds events → SavesTaken stream (events ++ front_of_state line echo) (store_text stream (Some state.object)) → IsSafeEven stream (and_state rounds line state echo) (events ++ state_events stream line state.object echo)
-state_more stream line echo rounds events state fits s saves =
-    subst (λ (es : List Event). IsSafeEven stream (and_state rounds line state echo) es) ended (save_more stream (and_state rounds line state echo) (events ++ front_of_state line echo) (store_text stream (Some state.object)) (subst (λ (es : List Event). IsSafeEven stream (and_state rounds line state echo) es) regrouped got) (inr saves))
+state_more : (stream line echo : List ℕ) (taken_lines : List TakenLine) (events : List Event) (state : StateMsg) → AreTaken stream none_counted (and_state taken_lines line state echo) → IsSafeEven stream taken_lines events → SavesTaken stream (events ++ front_of_state line echo) (store_text stream (Some state.object)) → IsSafeEven stream (and_state taken_lines line state echo) (events ++ state_events stream line state.object echo)
+state_more stream line echo taken_lines events state fits s saves =
+    subst (λ (es : List Event). IsSafeEven stream (and_state taken_lines line state echo) es) ended (save_more stream (and_state taken_lines line state echo) (events ++ front_of_state line echo) (store_text stream (Some state.object)) (subst (λ (es : List Event). IsSafeEven stream (and_state taken_lines line state echo) es) regrouped got) (inr saves))
   where
-    got : IsSafeEven stream (and_state rounds line state echo) (((((events ++ ReadLine line ∷ []) ++ Given line ∷ []) ++ Took line ∷ []) ++ Emitted echo ∷ []) ++ Got echo ∷ [])
-    got = neutral_more stream (and_state rounds line state echo) ((((events ++ ReadLine line ∷ []) ++ Given line ∷ []) ++ Took line ∷ []) ++ Emitted echo ∷ []) (Got echo) (got_neutral echo) (neutral_more stream (and_state rounds line state echo) (((events ++ ReadLine line ∷ []) ++ Given line ∷ []) ++ Took line ∷ []) (Emitted echo) (emitted_neutral echo) (neutral_more stream (and_state rounds line state echo) ((events ++ ReadLine line ∷ []) ++ Given line ∷ []) (Took line) (took_neutral line) (line_more stream rounds (state_round line state echo) events fits refl s)))
+    got : IsSafeEven stream (and_state taken_lines line state echo) (((((events ++ ReadLine line ∷ []) ++ Given line ∷ []) ++ Took line ∷ []) ++ Emitted echo ∷ []) ++ Got echo ∷ [])
+    got = neutral_more stream (and_state taken_lines line state echo) ((((events ++ ReadLine line ∷ []) ++ Given line ∷ []) ++ Took line ∷ []) ++ Emitted echo ∷ []) (Got echo) (got_neutral echo) (neutral_more stream (and_state taken_lines line state echo) (((events ++ ReadLine line ∷ []) ++ Given line ∷ []) ++ Took line ∷ []) (Emitted echo) (emitted_neutral echo) (neutral_more stream (and_state taken_lines line state echo) ((events ++ ReadLine line ∷ []) ++ Given line ∷ []) (Took line) (took_neutral line) (line_more stream taken_lines (state_line line state echo) events fits refl s)))
 
     regrouped : ((((events ++ ReadLine line ∷ []) ++ Given line ∷ []) ++ Took line ∷ []) ++ Emitted echo ∷ []) ++ Got echo ∷ [] ≡ events ++ front_of_state line echo
     regrouped = simp append_assoc
@@ -493,21 +493,21 @@ state_more stream line echo rounds events state fits s saves =
     ended : (events ++ front_of_state line echo) ++ Saved (store_text stream (Some state.object)) ∷ [] ≡ events ++ state_events stream line state.object echo
     ended = append_assoc events (front_of_state line echo) (Saved (store_text stream (Some state.object)) ∷ [])
 
-round_more : (stream : List ℕ) (rounds : List Round) (round : Round) → AreRounds stream none_counted rounds → Fits stream (counted_through none_counted rounds) round → IsSafeEven stream rounds (first_events stream ++ rounds_events stream none_counted rounds) → IsSafeEven stream (rounds ++ round ∷ []) ((first_events stream ++ rounds_events stream none_counted rounds) ++ round_events stream (counted_through none_counted rounds) round)
-round_more stream rounds (record_round line content) are fits s = record_more stream line rounds (first_events stream ++ rounds_events stream none_counted rounds) (counted_through none_counted rounds).records content (AreRounds-more stream none_counted rounds (record_round line content) are fits) s
-round_more stream rounds (state_round line state echo) are fits s =
-    state_more stream line echo rounds (first_events stream ++ rounds_events stream none_counted rounds) state (AreRounds-more stream none_counted rounds (state_round line state echo) are fits) s (subst (λ (es : List Event). SavesTaken stream es (store_text stream (Some state.object))) (sym (append_assoc (first_events stream) (rounds_events stream none_counted rounds) (front_of_state line echo))) (saves_state stream line echo rounds state are fits))
-round_more stream rounds (other_round line found) are fits s = other_more stream rounds (other_round line found) (first_events stream ++ rounds_events stream none_counted rounds) (AreRounds-more stream none_counted rounds (other_round line found) are fits) refl s
+round_more : (stream : List ℕ) (taken_lines : List TakenLine) (taken_line : TakenLine) → AreTaken stream none_counted taken_lines → Fits stream (counted_through none_counted taken_lines) taken_line → IsSafeEven stream taken_lines (first_events stream ++ all_taken_events stream none_counted taken_lines) → IsSafeEven stream (taken_lines ++ taken_line ∷ []) ((first_events stream ++ all_taken_events stream none_counted taken_lines) ++ taken_events stream (counted_through none_counted taken_lines) taken_line)
+round_more stream taken_lines (record_line line content) are fits s = record_more stream line taken_lines (first_events stream ++ all_taken_events stream none_counted taken_lines) (counted_through none_counted taken_lines).records content (AreTaken-more stream none_counted taken_lines (record_line line content) are fits) s
+round_more stream taken_lines (state_line line state echo) are fits s =
+    state_more stream line echo taken_lines (first_events stream ++ all_taken_events stream none_counted taken_lines) state (AreTaken-more stream none_counted taken_lines (state_line line state echo) are fits) s (subst (λ (es : List Event). SavesTaken stream es (store_text stream (Some state.object))) (sym (append_assoc (first_events stream) (all_taken_events stream none_counted taken_lines) (front_of_state line echo))) (saves_state stream line echo taken_lines state are fits))
+round_more stream taken_lines (other_line line found) are fits s = other_more stream taken_lines (other_line line found) (first_events stream ++ all_taken_events stream none_counted taken_lines) (AreTaken-more stream none_counted taken_lines (other_line line found) are fits) refl s
 
 -- all lines that were taken
-rounds_safe : (stream : List ℕ) (done todo : List Round) → AreRounds stream none_counted done → AreRounds stream (counted_through none_counted done) todo → IsSafeEven stream done (first_events stream ++ rounds_events stream none_counted done) → IsSafeEven stream (done ++ todo) (first_events stream ++ rounds_events stream none_counted (done ++ todo))
-rounds_safe stream done [] are rest s = subst (λ (rs : List Round). IsSafeEven stream rs (first_events stream ++ rounds_events stream none_counted rs)) (sym (append-nil done)) s
-rounds_safe stream done (round ∷ todo) are rest s =
-    subst (λ (rs : List Round). IsSafeEven stream rs (first_events stream ++ rounds_events stream none_counted rs)) (append_assoc done (round ∷ []) todo) (rounds_safe stream (done ++ round ∷ []) todo (AreRounds-more stream none_counted done round are rest.0) (subst (λ (c : Counted). AreRounds stream c todo) (sym (counted_through-more none_counted done round)) rest.1) one_more)
+taken_safe : (stream : List ℕ) (done todo : List TakenLine) → AreTaken stream none_counted done → AreTaken stream (counted_through none_counted done) todo → IsSafeEven stream done (first_events stream ++ all_taken_events stream none_counted done) → IsSafeEven stream (done ++ todo) (first_events stream ++ all_taken_events stream none_counted (done ++ todo))
+taken_safe stream done [] are rest s = subst (λ (rs : List TakenLine). IsSafeEven stream rs (first_events stream ++ all_taken_events stream none_counted rs)) (sym (append-nil done)) s
+taken_safe stream done (taken_line ∷ todo) are rest s =
+    subst (λ (rs : List TakenLine). IsSafeEven stream rs (first_events stream ++ all_taken_events stream none_counted rs)) (append_assoc done (taken_line ∷ []) todo) (taken_safe stream (done ++ taken_line ∷ []) todo (AreTaken-more stream none_counted done taken_line are rest.0) (subst (λ (c : Counted). AreTaken stream c todo) (sym (counted_through-more none_counted done taken_line)) rest.1) one_more)
   where
-    one_more : IsSafeEven stream (done ++ round ∷ []) (first_events stream ++ rounds_events stream none_counted (done ++ round ∷ []))
+    one_more : IsSafeEven stream (done ++ taken_line ∷ []) (first_events stream ++ all_taken_events stream none_counted (done ++ taken_line ∷ []))
     one_more =
-        subst (λ (es : List Event). IsSafeEven stream (done ++ round ∷ []) es) (append_assoc (first_events stream) (rounds_events stream none_counted done) (round_events stream (counted_through none_counted done) round) ∙ ap (λ (es : List Event). first_events stream ++ es) (sym (rounds_events-more stream none_counted done round))) (round_more stream done round are rest.0 s)
+        subst (λ (es : List Event). IsSafeEven stream (done ++ taken_line ∷ []) es) (append_assoc (first_events stream) (all_taken_events stream none_counted done) (taken_events stream (counted_through none_counted done) taken_line) ∙ ap (λ (es : List Event). first_events stream ++ es) (sym (all_taken_events-more stream none_counted done taken_line))) (round_more stream done taken_line are rest.0 s)
 
 -- the end of the attempt
 neutral_read_end : IsNeutral ReadEnd
@@ -528,18 +528,18 @@ neutral_ended ends = record { plain = record { no_start = λ plan e. cc; no_save
 abbrev both_ended : Codes
 both_ended = record { source = Some (exit.Code 0); dest = Some (exit.Code 0) }
 
-ending_safe : (stream : List ℕ) (rounds : List Round) (events : List Event) (is_over : Bool) → IsSafeEven stream rounds events → IsSafeEven stream rounds (events ++ ending_events is_over)
-ending_safe stream rounds events true s =
-    subst (λ (es : List Event). IsSafeEven stream rounds es) regrouped (neutral_more stream rounds ((((events ++ ReadEnd ∷ []) ++ Closed ∷ []) ++ TookEnd ∷ []) ++ GotEnd ∷ []) (Ended both_ended) (neutral_ended both_ended) (neutral_more stream rounds (((events ++ ReadEnd ∷ []) ++ Closed ∷ []) ++ TookEnd ∷ []) GotEnd neutral_got_end (neutral_more stream rounds ((events ++ ReadEnd ∷ []) ++ Closed ∷ []) TookEnd neutral_took_end (neutral_more stream rounds (events ++ ReadEnd ∷ []) Closed neutral_closed (neutral_more stream rounds events ReadEnd neutral_read_end s)))))
+ending_safe : (stream : List ℕ) (taken_lines : List TakenLine) (events : List Event) (is_over : Bool) → IsSafeEven stream taken_lines events → IsSafeEven stream taken_lines (events ++ ending_events is_over)
+ending_safe stream taken_lines events true s =
+    subst (λ (es : List Event). IsSafeEven stream taken_lines es) regrouped (neutral_more stream taken_lines ((((events ++ ReadEnd ∷ []) ++ Closed ∷ []) ++ TookEnd ∷ []) ++ GotEnd ∷ []) (Ended both_ended) (neutral_ended both_ended) (neutral_more stream taken_lines (((events ++ ReadEnd ∷ []) ++ Closed ∷ []) ++ TookEnd ∷ []) GotEnd neutral_got_end (neutral_more stream taken_lines ((events ++ ReadEnd ∷ []) ++ Closed ∷ []) TookEnd neutral_took_end (neutral_more stream taken_lines (events ++ ReadEnd ∷ []) Closed neutral_closed (neutral_more stream taken_lines events ReadEnd neutral_read_end s)))))
   where
     regrouped : ((((events ++ ReadEnd ∷ []) ++ Closed ∷ []) ++ TookEnd ∷ []) ++ GotEnd ∷ []) ++ Ended both_ended ∷ [] ≡ events ++ last_events
     regrouped = simp append_assoc
-ending_safe stream rounds events false s = subst (λ (es : List Event). IsSafeEven stream rounds es) (sym (append-nil events)) s
+ending_safe stream taken_lines events false s = subst (λ (es : List Event). IsSafeEven stream taken_lines es) (sym (append-nil events)) s
 
 -- the events of a world that is reached are a safe sync
 pub reached_safe : (world : World) → IsReached world → IsSafeSync world.stream world.events
 reached_safe world r =
-    subst (λ (es : List Event). IsSafeSync world.stream es) (sym r.events) (ending_safe world.stream r.rounds (first_events world.stream ++ rounds_events world.stream none_counted r.rounds) world.is_over (rounds_safe world.stream [] r.rounds tt r.fits started)).safe
+    subst (λ (es : List Event). IsSafeSync world.stream es) (sym r.events) (ending_safe world.stream r.taken_lines (first_events world.stream ++ all_taken_events world.stream none_counted r.taken_lines) world.is_over (taken_safe world.stream [] r.taken_lines tt r.fits started)).safe
   where
     started : IsSafeEven world.stream [] (first_events world.stream ++ [])
     started = subst (λ (es : List Event). IsSafeEven world.stream [] es) (sym (append-nil (first_events world.stream))) (first_safe world.stream)

@@ -6,7 +6,7 @@ use Rattle.outside.specs.declared.event.Event.TheVariants.{ReadLine}
 use Rattle.airbyte_message.specs.declared.message.RecordMsg.{RecordMsg}
 use Rattle.airbyte_message.specs.declared.message.StateMsg.{StateMsg}
 use Rattle.worker_run.specs.Bounds.{IsBounded}
-use Rattle.worker_run.specs.Rounds.{FitsRecord, IsUnbuilt}
+use Rattle.worker_run.specs.TakenLines.{FitsRecord, IsUnbuilt}
 use Rattle.worker_run.specs.World.{World, record_events}
 use Rattle.worker_run.specs.Steps.{TakesRecord, TakesState, TakesOther, PassesOver, Refuses, IsFitState, AddsState}
 

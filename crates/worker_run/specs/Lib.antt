@@ -1,7 +1,7 @@
 pub mod Bounds
 pub mod Words
 pub mod Catalog
-pub mod Rounds
+pub mod TakenLines
 pub mod Store
 pub mod World
 pub mod EventParts

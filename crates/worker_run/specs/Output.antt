@@ -17,7 +17,7 @@ use Rattle.airbyte_message.specs.declared.message.TraceMsg.TheVariants as trace
 use Rattle.airbyte_message.specs.declared.failure_type.FailureType.{FailureType}
 use Rattle.airbyte_message.specs.declared.level.Level.{Level}
 use Rattle.airbyte_message.specs.Words.{level_text, failure_text}
-use Rattle.worker_run.specs.Rounds.{Heard}
+use Rattle.worker_run.specs.TakenLines.{FoundLine}
 
 abbrev pub usage_line : List ℕ
 usage_line = codes "usage: airbyte_worker local --messages F --catalog F"
@@ -64,16 +64,16 @@ trace_line (trace.Status id status emitted_at) = None
 trace_line (trace.Other object) = None
 
 -- what is said when a line is taken
-abbrev pub heard_line : List ℕ → Option Message → Option (List ℕ)
-heard_line line None = Some (source_line line)
-heard_line line (Some (message.Rec content)) = None
-heard_line line (Some (message.State state)) = Some (saved_line state.object)
-heard_line line (Some (message.Log log)) = Some (log_line log.level log.text)
-heard_line line (Some (message.Spec spec)) = None
-heard_line line (Some (message.Connection connection)) = None
-heard_line line (Some (message.Catalog catalog)) = None
-heard_line line (Some (message.Trace content)) = trace_line content
-heard_line line (Some (message.Control control)) = None
+abbrev pub said_of_line : List ℕ → Option Message → Option (List ℕ)
+said_of_line line None = Some (source_line line)
+said_of_line line (Some (message.Rec content)) = None
+said_of_line line (Some (message.State state)) = Some (saved_line state.object)
+said_of_line line (Some (message.Log log)) = Some (log_line log.level log.text)
+said_of_line line (Some (message.Spec spec)) = None
+said_of_line line (Some (message.Connection connection)) = None
+said_of_line line (Some (message.Catalog catalog)) = None
+said_of_line line (Some (message.Trace content)) = trace_line content
+said_of_line line (Some (message.Control control)) = None
 
 -- the body of a record
 abbrev pub body_of : Option Message → Option (List ℕ)
@@ -88,12 +88,12 @@ body_of (Some (message.Trace content)) = None
 body_of (Some (message.Control control)) = None
 
 -- what is said of these lines as they are taken, in order
-abbrev pub said_lines : List Heard → List (List ℕ)
-said_lines heard = filter_map (λ h. heard_line h.line h.found) heard
+abbrev pub said_lines : List FoundLine → List (List ℕ)
+said_lines found_lines = filter_map (λ h. said_of_line h.line h.found) found_lines
 
 -- a row line for each record, in order
-abbrev pub row_lines : List Heard → List (List ℕ)
-row_lines heard = map row_line (filter_map (λ h. body_of h.found) heard)
+abbrev pub row_lines : List FoundLine → List (List ℕ)
+row_lines found_lines = map row_line (filter_map (λ h. body_of h.found) found_lines)
 
 -- the table with its rows
 abbrev pub table_lines : List ℕ → List (List ℕ) → List (List ℕ)
@@ -113,8 +113,8 @@ abbrev pub end_lines : List ℕ → List (List ℕ) → End → List (List ℕ)
 end_lines stream rows end = attempt_line (status_of end) ∷ table_at stream rows end
 
 -- what is said of an attempt that took these lines and ended so
-abbrev pub attempt_lines : List ℕ → List Heard → End → List (List ℕ)
-attempt_lines stream heard end = said_lines heard ++ end_lines stream (row_lines heard) end
+abbrev pub attempt_lines : List ℕ → List FoundLine → End → List (List ℕ)
+attempt_lines stream found_lines end = said_lines found_lines ++ end_lines stream (row_lines found_lines) end
 
 -- the bodies of rows, as they are said
 abbrev pub body_lines : List RawRow → List (List ℕ)

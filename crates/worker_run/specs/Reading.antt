@@ -13,24 +13,24 @@ use Rattle.json_fields.specs.Answer.{IsOnly}
 use Rattle.text_lines.specs.Lines.{lines_of}
 use Rattle.worker_run.specs.Words.{TextNames}
 use Rattle.worker_run.specs.Catalog.{IsCatalog}
-use Rattle.worker_run.specs.Rounds.{Round, round_line, heard_in, none_counted, counted_through, AreRounds, IsUnbuilt}
-use Rattle.worker_run.specs.World.{World, ended, rounds_events}
+use Rattle.worker_run.specs.TakenLines.{TakenLine, taken_text, found_in, none_counted, counted_through, AreTaken, IsUnbuilt}
+use Rattle.worker_run.specs.World.{World, ended, all_taken_events}
 use Rattle.worker_run.specs.Output.{said_lines, attempt_lines, usage_line, status_line}
 
 -- the new world has taken these lines more than the old one
-pub record TakesLines (old new : World) (rounds : List Round) : Type 0 where
+pub record TakesLines (old new : World) (taken_lines : List TakenLine) : Type 0 where
   pub stream : new.stream ≡ old.stream
-  pub lines : old.lines ≡ map round_line rounds ++ new.lines
-  pub number : new.number ≡ old.number + length rounds
-  pub counted : new.counted ≡ counted_through old.counted rounds
-  pub fits : AreRounds old.stream old.counted rounds
-  pub events : new.events ≡ old.events ++ rounds_events old.stream old.counted rounds
+  pub lines : old.lines ≡ map taken_text taken_lines ++ new.lines
+  pub number : new.number ≡ old.number + length taken_lines
+  pub counted : new.counted ≡ counted_through old.counted taken_lines
+  pub fits : AreTaken old.stream old.counted taken_lines
+  pub events : new.events ≡ old.events ++ all_taken_events old.stream old.counted taken_lines
 
 -- so, and what was said is what these lines say
 pub record SaysLines (old new : World) (before now : Option (List (List ℕ))) : Type 0 where
-  pub rounds : List Round
-  pub takes : TakesLines old new rounds
-  pub said : now ≡ told_more (said_lines (heard_in rounds)) before
+  pub taken_lines : List TakenLine
+  pub takes : TakesLines old new taken_lines
+  pub said : now ≡ told_more (said_lines (found_in taken_lines)) before
 
 -- what stands behind the lines that were taken: nothing, or a line with this number that is not taken
 abbrev pub EndsAs : End → World → Type 0
@@ -64,27 +64,27 @@ pub record ReadsSome (old : World) (before now : Option (List (List ℕ))) : Typ
   pub says : SaysLines old through before now
 
 -- what stands behind the lines of a text that were taken
-abbrev pub EndsBehind : List ℕ → List Round → List (List ℕ) → End → Type 0
-EndsBehind stream rounds rest how.Ok = rest ≡ []
-EndsBehind stream rounds rest how.Usage = ⊥
-EndsBehind stream rounds rest how.FileFault = ⊥
-EndsBehind stream rounds rest how.SayFault = ⊥
-EndsBehind stream rounds rest (how.Unbuilt line) =
-    (bad : List ℕ) × (others : List (List ℕ)) × (rest ≡ bad ∷ others) × IsUnbuilt stream (counted_through none_counted rounds).since bad × (line ≡ length rounds + 1)
-EndsBehind stream rounds rest how.NoMemory = ⊥
+abbrev pub EndsBehind : List ℕ → List TakenLine → List (List ℕ) → End → Type 0
+EndsBehind stream taken_lines rest how.Ok = rest ≡ []
+EndsBehind stream taken_lines rest how.Usage = ⊥
+EndsBehind stream taken_lines rest how.FileFault = ⊥
+EndsBehind stream taken_lines rest how.SayFault = ⊥
+EndsBehind stream taken_lines rest (how.Unbuilt line) =
+    (bad : List ℕ) × (others : List (List ℕ)) × (rest ≡ bad ∷ others) × IsUnbuilt stream (counted_through none_counted taken_lines).since bad × (line ≡ length taken_lines + 1)
+EndsBehind stream taken_lines rest how.NoMemory = ⊥
 
 -- the lines of the text are these, which are taken one after another, and then the end: no line, or one that is not taken
 pub record ReadsTo (text stream : List ℕ) (end : End) : Type 0 where
-  pub rounds : List Round
+  pub taken_lines : List TakenLine
   pub rest : List (List ℕ)
-  pub lines : lines_of text ≡ map round_line rounds ++ rest
-  pub fits : AreRounds stream none_counted rounds
-  pub ends : EndsBehind stream rounds rest end
+  pub lines : lines_of text ≡ map taken_text taken_lines ++ rest
+  pub fits : AreTaken stream none_counted taken_lines
+  pub ends : EndsBehind stream taken_lines rest end
 
 -- an attempt over this text ends so and says these lines
 pub record IsAttempt (text stream : List ℕ) (end : End) (lines : List (List ℕ)) : Type 0 where
   pub reads : ReadsTo text stream end
-  pub says : lines ≡ attempt_lines stream (heard_in reads.rounds) end
+  pub says : lines ≡ attempt_lines stream (found_in reads.taken_lines) end
 
 -- an attempt over this text has ended so, and its lines were said
 pub record Attempted (text stream : List ℕ) (end : End) (before now : Option (List (List ℕ))) : Type 0 where

@@ -16,7 +16,7 @@ use Rattle.airbyte_message.specs.declared.message.StateKind.TheVariants as kind
 use Rattle.airbyte_message.specs.declared.message.TraceMsg.{TraceMsg}
 use Rattle.airbyte_message.specs.declared.message.TraceMsg.TheVariants as trace
 use Rattle.json_fields.specs.Answer.{IsAnswer}
-use Rattle.worker_run.specs.Rounds.{Heard, IsOfStream}
+use Rattle.worker_run.specs.TakenLines.{FoundLine, IsOfStream}
 use Rattle.worker_run.specs.Store.{store_text, states_text}
 use Rattle.worker_run.specs.World.{row_of}
 use Rattle.worker_run.specs.EventParts.{read_line, given_line, got_line, saved_text, rows_of}
@@ -53,14 +53,14 @@ Passes stream (Some (message.Trace content)) = PassesTrace stream content
 Passes stream (Some (message.Control control)) = ⊥
 
 -- these are the lines that are passed on, each with the message that it is
-abbrev pub ArePassed : List ℕ → List (List ℕ) → List Heard → Type 0
+abbrev pub ArePassed : List ℕ → List (List ℕ) → List FoundLine → Type 0
 ArePassed stream [] passed = passed ≡ []
 ArePassed stream (line ∷ lines) passed =
-    (found : Option Message) × IsAnswer (IsMessage line) found × (others : List Heard) × ArePassed stream lines others
+    (found : Option Message) × IsAnswer (IsMessage line) found × (others : List FoundLine) × ArePassed stream lines others
     × ((Passes stream found × (passed ≡ record { line = line; found = found } ∷ others)) ⊎ ((¬ Passes stream found) × (passed ≡ others)))
 
-abbrev pub heard_text : Heard → List ℕ
-heard_text heard = heard.line
+abbrev pub found_text : FoundLine → List ℕ
+found_text line = line.line
 
 -- the events since the last start
 abbrev pub attempt_after : List Event → Event → List Event
@@ -94,9 +94,9 @@ and_state_of (Some (message.State state)) before states = record { state = state
 and_state_of found before states = states
 
 -- the states among the lines that were passed on, each with the records before it
-abbrev pub states_behind : List RecordMsg → List Heard → List ReadState
+abbrev pub states_behind : List RecordMsg → List FoundLine → List ReadState
 states_behind before [] = []
-states_behind before (heard ∷ passed) = and_state_of heard.found before (states_behind (records_after before heard.found) passed)
+states_behind before (first ∷ passed) = and_state_of first.found before (states_behind (records_after before first.found) passed)
 
 -- the line is the echo of the state with some count
 abbrev pub Echoes : StateMsg → List ℕ → Type 0
@@ -123,7 +123,7 @@ pub record SavesNothing (stream : List ℕ) (before : List Event) (text : List �
 -- The text holds the state that the last echo takes, and each record that it covers and that was read before it stands
 -- committed in this attempt, as the row of its own line with its number.
 pub record SavesTaken (stream : List ℕ) (before : List Event) (text : List ℕ) : Type 0 where
-  pub passed : List Heard
+  pub passed : List FoundLine
   pub are : ArePassed stream (filter_map read_line (attempt before)) passed
   pub taken : List ReadState
   pub last : ReadState
@@ -133,10 +133,10 @@ pub record SavesTaken (stream : List ℕ) (before : List Event) (text : List ℕ
 
 -- the lines that were given are a prefix of those that are passed on
 pub record GivesPassed (stream : List ℕ) (reads gives : List (List ℕ)) : Type 0 where
-  pub passed : List Heard
+  pub passed : List FoundLine
   pub are : ArePassed stream reads passed
   pub rest : List (List ℕ)
-  pub splits : map heard_text passed ≡ gives ++ rest
+  pub splits : map found_text passed ≡ gives ++ rest
 
 -- the events so far are safe, as to the given lines and to the last event
 pub record IsSafeSoFar (stream : List ℕ) (events : List Event) : Type 0 where

@@ -14,8 +14,8 @@ use Rattle.worker_run.specs.declared.plain_world.Step.{Step}
 use Rattle.worker_run.specs.declared.plain_world.Step.TheVariants as step
 use Rattle.worker_run.specs.declared.judge.Judged.{Judged}
 use Rattle.worker_run.specs.declared.judge.Judged.TheVariants as judged
-use Rattle.worker_run.specs.Rounds.{record_round, state_round, other_round, IsOfStream, IsTakenState, IsPassedTrace, FitsRecord, FitsState, FitsOther, IsUnbuilt, longest_line}
-use Rattle.worker_run.specs.Output.{heard_line, trace_line, log_line}
+use Rattle.worker_run.specs.TakenLines.{record_line, state_line, other_line, IsOfStream, IsTakenState, IsPassedTrace, FitsRecord, FitsState, FitsOther, IsUnbuilt, longest_line}
+use Rattle.worker_run.specs.Output.{said_of_line, trace_line, log_line}
 use Rattle.worker_run.specs.World.{World, took, ended, state_events}
 
 -- a line is a state that is taken, before its echo is written
@@ -28,7 +28,7 @@ pub record IsFitState (stream : List ℕ) (since : ℕ) (line : List ℕ) (state
 pub record PassesOver (line : List ℕ) (said : Option (List ℕ)) : Type 0 where
   pub found : Option Message
   pub fits : FitsOther line found
-  pub is : said ≡ heard_line line found
+  pub is : said ≡ said_of_line line found
 
 -- what a line was judged to be
 abbrev pub IsJudged : List ℕ → ℕ → List ℕ → Judged → Type 0
@@ -76,7 +76,7 @@ pub record TakesRecord (old new : World) : Type 0 where
   pub rest : List (List ℕ)
   pub next : old.lines ≡ line ∷ rest
   pub fits : FitsRecord old.stream line content
-  pub after : new ≡ took old (record_round line content) rest
+  pub after : new ≡ took old (record_line line content) rest
 
 -- the next line was taken as a state, whose object was saved
 pub record TakesState (old : World) (object : List ℕ) (new : World) : Type 0 where
@@ -87,7 +87,7 @@ pub record TakesState (old : World) (object : List ℕ) (new : World) : Type 0 w
   pub next : old.lines ≡ line ∷ rest
   pub fits : FitsState old.stream old.counted.since line state echo
   pub saved : object ≡ state.object
-  pub after : new ≡ took old (state_round line state echo) rest
+  pub after : new ≡ took old (state_line line state echo) rest
 
 -- the next line was passed over, and this is said of it
 pub record TakesOther (old : World) (said : Option (List ℕ)) (new : World) : Type 0 where
@@ -96,8 +96,8 @@ pub record TakesOther (old : World) (said : Option (List ℕ)) (new : World) : T
   pub rest : List (List ℕ)
   pub next : old.lines ≡ line ∷ rest
   pub fits : FitsOther line found
-  pub is : said ≡ heard_line line found
-  pub after : new ≡ took old (other_round line found) rest
+  pub is : said ≡ said_of_line line found
+  pub after : new ≡ took old (other_line line found) rest
 
 -- the next line has this number and is not taken
 pub record Refuses (old : World) (number : ℕ) : Type 0 where

@@ -9,7 +9,7 @@ use Rattle.outside.specs.declared.event.AttemptPlan.{AttemptPlan}
 use Rattle.outside.specs.declared.event.Job.TheVariants as job
 use Rattle.outside.specs.declared.event.Exit.TheVariants as exit
 use Rattle.airbyte_message.specs.declared.message.RecordMsg.{RecordMsg}
-use Rattle.worker_run.specs.Rounds.{Round, record_round, state_round, other_round, Counted, none_counted, counted_after}
+use Rattle.worker_run.specs.TakenLines.{TakenLine, record_line, state_line, other_line, Counted, none_counted, counted_after}
 use Rattle.worker_run.specs.Store.{store_text, states_text}
 
 -- the row of a record with this number in load 1
@@ -47,15 +47,15 @@ abbrev pub state_events : List ℕ → List ℕ → List ℕ → List ℕ → Li
 state_events stream line object echo = ReadLine line ∷ Given line ∷ Took line ∷ Emitted echo ∷ Got echo ∷ Saved (store_text stream (Some object)) ∷ []
 
 -- the events of a line that is taken
-abbrev pub round_events : List ℕ → Counted → Round → List Event
-round_events stream counted (record_round line content) = record_events line counted.records content
-round_events stream counted (state_round line state echo) = state_events stream line state.object echo
-round_events stream counted (other_round line found) = ReadLine line ∷ []
+abbrev pub taken_events : List ℕ → Counted → TakenLine → List Event
+taken_events stream counted (record_line line content) = record_events line counted.records content
+taken_events stream counted (state_line line state echo) = state_events stream line state.object echo
+taken_events stream counted (other_line line found) = ReadLine line ∷ []
 
 -- the events of lines that are taken one after another
-abbrev pub rounds_events : List ℕ → Counted → List Round → List Event
-rounds_events stream counted [] = []
-rounds_events stream counted (round ∷ rounds) = round_events stream counted round ++ rounds_events stream (counted_after counted round) rounds
+abbrev pub all_taken_events : List ℕ → Counted → List TakenLine → List Event
+all_taken_events stream counted [] = []
+all_taken_events stream counted (taken_line ∷ taken_lines) = taken_events stream counted taken_line ++ all_taken_events stream (counted_after counted taken_line) taken_lines
 
 -- the events behind the last line
 abbrev pub last_events : List Event
@@ -75,14 +75,14 @@ pub record World : Type 0 where
 abbrev pub begun : List ℕ → List ℕ → World
 begun text stream = record { stream = stream; lines = lines_of text; number = 0; counted = none_counted; events = first_events stream; is_over = false }
 
--- the world after a line was taken as this round
-abbrev pub took : World → Round → List (List ℕ) → World
-took world round lines = record {
+-- the world after a line was taken as this taken_line
+abbrev pub took : World → TakenLine → List (List ℕ) → World
+took world taken_line lines = record {
   stream = world.stream;
   lines = lines;
   number = world.number + 1;
-  counted = counted_after world.counted round;
-  events = world.events ++ round_events world.stream world.counted round;
+  counted = counted_after world.counted taken_line;
+  events = world.events ++ taken_events world.stream world.counted taken_line;
   is_over = world.is_over;
 }
 

@@ -1,10 +1,10 @@
 // Which lines are taken.
 ghost use Rattle.std.specs.Prelude.{◌≡◌, ◌≤◌, IfOk, IsTrue, ◌↔◌};
-ghost use Rattle.worker_run.specs.Rounds.{IsOfStream, IsTakenState, longest_line};
+ghost use Rattle.worker_run.specs.TakenLines.{IsOfStream, IsTakenState, longest_line};
 
 use crate::lines::{error_line, log_line, source_line};
 use airbyte_message::{
-    FailureType, Message, RecordMsg, StateKind, StateMsg, TraceMsg, read_message,
+    FailureType, Message, MessageReader, RecordMsg, StateKind, StateMsg, TraceMsg, own_message,
 };
 use outside::{Bytes, Name, NoMemory, StreamId};
 use std::alloc::Global;
@@ -51,14 +51,23 @@ impl Judged {
     ghost use Rattle.worker_run.specs.Steps.{IsJudged, IsJudgedRecord, IsJudgedState, IsJudgedAs, IsJudgedTrace};
 
     /// Judges a line of a stream, of which so many records were read since the last state.
-    pub fn of(alloc: Global, line: &[u8], stream: &Name, since: u64) -> Result<Self, NoMemory>
+    pub fn of(
+        alloc: Global,
+        reader: &mut MessageReader,
+        line: &[u8],
+        stream: &Name,
+        since: u64,
+    ) -> Result<Self, NoMemory>
         ensures { IfOk result (IsJudged stream.now since line.now) }
     {
         if line.len() > LONGEST_LINE {
             return Ok(Judged::Unbuilt);
         }
-        match read_message(alloc, line)? {
-            Some(message) => Judged::of_message(alloc, message, stream, since),
+        match reader.read(line)? {
+            Some(view) => {
+                let message = own_message(alloc, view)?;
+                Judged::of_message(alloc, message, stream, since)
+            }
             None => Ok(Judged::Other(Some(source_line(alloc, line)?))),
         }
     }

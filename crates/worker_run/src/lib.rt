@@ -3,11 +3,11 @@
 
 mod catalog;
 mod end;
+mod events;
 mod judge;
 mod lines;
 mod output;
 mod plain_world;
-mod rounds;
 mod store;
 mod top;
 mod words;

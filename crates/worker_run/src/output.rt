@@ -50,7 +50,7 @@ pub fn say_saved<K: Desk>(alloc: Global, desk: &mut K, object: &[u8]) -> Result<
 }
 
 /// Says what is to be said of a line that is passed over, if anything.
-pub fn say_heard<K: Desk>(desk: &mut K, said: Option<Bytes>) -> Result<(), Fault>
+pub fn say_other<K: Desk>(desk: &mut K, said: Option<Bytes>) -> Result<(), Fault>
     ensures ok { OnOk result (SaidLines (option_to_list said) (K.seen desk.old) (K.seen desk.new)) }
     ensures front { SaidFront (IsErrOf result Fault.Failed) (option_to_list said) (K.seen desk.old) (K.seen desk.new) }
 {

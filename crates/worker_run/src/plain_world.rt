@@ -4,9 +4,9 @@ ghost use Rattle.text_lines.specs.Lines.{lines_of};
 ghost use Rattle.airbyte_message.specs.Messages.{IsStateLine};
 ghost use Rattle.worker_run.specs.World.{begun, record_events as record_events_of};
 
+use crate::events::{closing_events, opening_events, other_events, record_events, state_events};
 use crate::judge::Judged;
-use crate::rounds::{closing_events, opening_events, other_events, record_events, state_events};
-use airbyte_message::{RecordMsg, StateMsg, echo_of};
+use airbyte_message::{MessageReader, RecordMsg, StateMsg, echo_of};
 use outside::{Bytes, Event, EventList, Name, NoMemory};
 use std::alloc::Global;
 use std::marker::Model;
@@ -28,9 +28,11 @@ pub enum Step {
 }
 
 /// A file of messages that goes line by line into one append table. It keeps each event, in order.
-#[derive(Debug, Drop)]
+#[derive(Drop)]
 pub struct PlainWorld {
     alloc: Global,
+    // It keeps its lists from line to line.
+    reader: MessageReader,
     text: Bytes,
     // The place behind the last line that was taken.
     at: usize,
@@ -85,7 +87,7 @@ impl PlainWorld {
     ghost use Rattle.worker_run.specs.Steps.{Steps, AddsState};
     ghost use Rattle.worker_run.specs.SafeSync.{IsSafeSync};
     ghost use Rattle.worker_run.specs.Output.{committed_lines};
-    ghost use Rattle.worker_run.specs.Rounds.{KindIsOf};
+    ghost use Rattle.worker_run.specs.TakenLines.{KindIsOf};
 
     /// A world that has taken no line: the load is opened, the empty store saved and the attempt started.
     pub fn new(alloc: Global, text: Bytes, stream: Name) -> Result<Self, NoMemory>
@@ -95,6 +97,7 @@ impl PlainWorld {
         let events = EventList::from_vec(opening_events(alloc, &stream)?);
         Ok(PlainWorld {
             alloc,
+            reader: MessageReader::new(alloc),
             text,
             at: 0,
             stream,
@@ -162,7 +165,7 @@ impl PlainWorld {
             return Ok(Step::Done);
         };
         let line = &self.text.as_slice()[place.start..place.end];
-        match Judged::of(self.alloc, line, &self.stream, self.since)? {
+        match Judged::of(self.alloc, &mut self.reader, line, &self.stream, self.since)? {
             Judged::Record(content) => {
                 push_record(self.alloc, &mut self.events, line, self.records, content)?;
                 self.at = place.end;

@@ -7,7 +7,7 @@ ghost use Rattle.worker_run.specs.Words.{asked as asked_of};
 
 use crate::catalog::stream_of;
 use crate::end::End;
-use crate::output::{say_end, say_heard, say_saved, say_status, say_usage};
+use crate::output::{say_end, say_other, say_saved, say_status, say_usage};
 use crate::words::{TextNames, asked};
 use crate::{PlainWorld, Step};
 use outside::{Bytes, Desk, Fault, Link, Name, Status};
@@ -43,7 +43,7 @@ fn take_lines<K: Desk>(alloc: Global, desk: &mut K, world: &mut PlainWorld) -> R
         match world.step()? {
             Step::Record => {}
             Step::Saved(object) => say_saved(alloc, desk, object.as_slice())?,
-            Step::Other(said) => say_heard(desk, said)?,
+            Step::Other(said) => say_other(desk, said)?,
             Step::Done => return Ok(End::Ok),
             Step::Unbuilt(line) => return Ok(End::Unbuilt { line }),
         }

@@ -86,5 +86,5 @@ returns-in-Unbuilt c =
       refuses w.stream w.text line w.at place.end w.number w.records w.since w.events w.is_over c.args.self.now c.self.view_is
           (next_is w.text c.as_slice.result.now c.as_slice-2.result.now w.at place.start place.end c.as_slice.ensures c.as_slice-2.ensures c.in-Some.ensures.line)
           (subst (λ (j : Judged). IsJudged w.stream w.since line j) c.in-Unbuilt.is c.in_ok-content.ensures),
-      refl,
+      c.self.view_is,
     )

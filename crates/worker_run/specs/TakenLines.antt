@@ -20,32 +20,32 @@ abbrev pub longest_line : ℕ
 longest_line = 20971520
 
 -- a line, and the message that it is, None where it is none
-pub record Heard : Type 0 where
+pub record FoundLine : Type 0 where
   pub line : List ℕ
   pub found : Option Message
 
 -- a line that was taken: a record, a state with its echo, or a line that is passed over
-pub data Round : Type 0 where
-  record_round : (line : List ℕ) → RecordMsg → Round
-  state_round : (line : List ℕ) → StateMsg → (echo : List ℕ) → Round
-  other_round : (line : List ℕ) → Option Message → Round
+pub data TakenLine : Type 0 where
+  record_line : (line : List ℕ) → RecordMsg → TakenLine
+  state_line : (line : List ℕ) → StateMsg → (echo : List ℕ) → TakenLine
+  other_line : (line : List ℕ) → Option Message → TakenLine
 
-abbrev pub round_line : Round → List ℕ
-round_line (record_round line content) = line
-round_line (state_round line state echo) = line
-round_line (other_round line found) = line
+abbrev pub taken_text : TakenLine → List ℕ
+taken_text (record_line line content) = line
+taken_text (state_line line state echo) = line
+taken_text (other_line line found) = line
 
 -- the message that the line is
-abbrev pub round_found : Round → Option Message
-round_found (record_round line content) = Some (message.Rec content)
-round_found (state_round line state echo) = Some (message.State state)
-round_found (other_round line found) = found
+abbrev pub taken_message : TakenLine → Option Message
+taken_message (record_line line content) = Some (message.Rec content)
+taken_message (state_line line state echo) = Some (message.State state)
+taken_message (other_line line found) = found
 
-abbrev pub heard_of : Round → Heard
-heard_of round = record { line = round_line round; found = round_found round }
+abbrev pub found_of : TakenLine → FoundLine
+found_of taken_line = record { line = taken_text taken_line; found = taken_message taken_line }
 
-abbrev pub heard_in : List Round → List Heard
-heard_in rounds = map heard_of rounds
+abbrev pub found_in : List TakenLine → List FoundLine
+found_in taken_lines = map found_of taken_lines
 
 -- the records that were read, and those of them since the last state
 pub record Counted : Type 0 where
@@ -55,10 +55,10 @@ pub record Counted : Type 0 where
 abbrev pub none_counted : Counted
 none_counted = record { records = 0; since = 0 }
 
-abbrev pub counted_after : Counted → Round → Counted
-counted_after counted (record_round line content) = record { records = counted.records + 1; since = counted.since + 1 }
-counted_after counted (state_round line state echo) = record { records = counted.records; since = 0 }
-counted_after counted (other_round line found) = counted
+abbrev pub counted_after : Counted → TakenLine → Counted
+counted_after counted (record_line line content) = record { records = counted.records + 1; since = counted.since + 1 }
+counted_after counted (state_line line state echo) = record { records = counted.records; since = 0 }
+counted_after counted (other_line line found) = counted
 
 -- the stream of this name, without namespace
 pub record IsOfStream (stream : List ℕ) (id : StreamId) : Type 0 where
@@ -117,7 +117,7 @@ IsTaken stream since (Some (message.Catalog catalog)) = Unit {0}
 IsTaken stream since (Some (message.Trace content)) = IsPassedTrace content
 IsTaken stream since (Some (message.Control control)) = Unit {0}
 
--- the line is taken as this round: it is this message and no other
+-- the line is taken as this taken_line: it is this message and no other
 pub record FitsRecord (stream line : List ℕ) (content : RecordMsg) : Type 0 where
   pub short : length line ≤ longest_line
   pub message : IsAnswer (IsMessage line) (Some (message.Rec content))
@@ -134,19 +134,19 @@ pub record FitsOther (line : List ℕ) (found : Option Message) : Type 0 where
   pub message : IsAnswer (IsMessage line) found
   pub passed : IsPassedOver found
 
-abbrev pub Fits : List ℕ → Counted → Round → Type 0
-Fits stream counted (record_round line content) = FitsRecord stream line content
-Fits stream counted (state_round line state echo) = FitsState stream counted.since line state echo
-Fits stream counted (other_round line found) = FitsOther line found
+abbrev pub Fits : List ℕ → Counted → TakenLine → Type 0
+Fits stream counted (record_line line content) = FitsRecord stream line content
+Fits stream counted (state_line line state echo) = FitsState stream counted.since line state echo
+Fits stream counted (other_line line found) = FitsOther line found
 
 -- each line is taken, after those before it
-abbrev pub AreRounds : List ℕ → Counted → List Round → Type 0
-AreRounds stream counted [] = Unit {0}
-AreRounds stream counted (round ∷ rounds) = Fits stream counted round × AreRounds stream (counted_after counted round) rounds
+abbrev pub AreTaken : List ℕ → Counted → List TakenLine → Type 0
+AreTaken stream counted [] = Unit {0}
+AreTaken stream counted (taken_line ∷ taken_lines) = Fits stream counted taken_line × AreTaken stream (counted_after counted taken_line) taken_lines
 
 -- what was counted through these lines
-abbrev pub counted_through : Counted → List Round → Counted
-counted_through counted rounds = fold counted_after counted rounds
+abbrev pub counted_through : Counted → List TakenLine → Counted
+counted_through counted taken_lines = fold counted_after counted taken_lines
 
 -- a line that is read as a message that is not taken: one of another stream, whose count is wrong, or that ends a run
 pub record IsRefused (stream : List ℕ) (since : ℕ) (line : List ℕ) : Type 0 where
