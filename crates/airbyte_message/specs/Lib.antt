@@ -1,4 +1,5 @@
 pub mod Words
+pub mod Depths
 pub mod Parts
 pub mod States
 pub mod Traces

@@ -5,6 +5,7 @@ use Rattle.json_span.specs.Elements.{AreElements}
 use Rattle.json_span.specs.declared.Span.{Span}
 use Rattle.json_fields.specs.Fields.{HasField, HasOptional, HasOptionalText, line_depth}
 use Rattle.json_fields.specs.Parts.{HasOptionalCount, NestsWithin}
+pub use Rattle.airbyte_message.specs.Depths.{state_depth}
 use Rattle.airbyte_message.specs.Parts.{HasDescriptor}
 use Rattle.airbyte_message.specs.declared.message.StateMsg.{StateMsg}
 use Rattle.airbyte_message.specs.declared.message.StateKind.{StateKind}
@@ -12,10 +13,6 @@ use Rattle.airbyte_message.specs.declared.message.StateKind.TheVariants as kind
 use Rattle.airbyte_message.specs.declared.message.StreamBlob.{StreamBlob}
 use Rattle.airbyte_message.specs.declared.state_message.StateType.{StateType}
 use Rattle.airbyte_message.specs.declared.state_message.StateType.TheVariants as types
-
--- a state nests less than a line, so that the state store can hold it
-abbrev pub state_depth : ℕ
-state_depth = 124
 
 -- the `recordCount` of `sourceStats`, either of which may be absent
 abbrev pub AreOptionalStats : Option (List ℕ) → Option ℕ → Type 0

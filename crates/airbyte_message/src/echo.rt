@@ -3,8 +3,6 @@ ghost use Rattle.std.specs.Prelude.{◌≡◌, ◌≢◌, ◌++◌, All, flat_ma
 ghost use Rattle.json_span.specs.Members.{IsMemberOf};
 ghost use Rattle.airbyte_message.specs.Echo.{IsEcho, member_text};
 ghost use Rattle.airbyte_message.specs.declared.message.StateKind.TheVariants.{Legacy};
-ghost use Rattle.json_fields.specs.Parts.{NestsWithin};
-ghost use Rattle.airbyte_message.specs.States.{state_depth};
 
 use crate::StateMsg;
 use basics::{Bytes, NoMemory};
@@ -42,8 +40,7 @@ fn put_raw_members(echo: &mut Bytes, object: &[u8], members: &[Member]) -> Resul
 /// The line by which a destination sends a state back after committing `count` records: the state's members as they
 /// stand, without `destinationStats`, and then `destinationStats` with the count. A Legacy state has no echo.
 pub fn echo_of(alloc: Global, state: &StateMsg, count: u64) -> Result<Bytes, NoMemory>
-    requires nests { NestsWithin state_depth state.now.object }
-    requires echoed { state.now.kind ≢ Legacy }
+    requires { state.now.kind ≢ Legacy }
     ensures { IfOk result (IsEcho state.now.object count) }
 {
     let object = state.object.as_slice();

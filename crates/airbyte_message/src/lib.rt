@@ -16,6 +16,7 @@ mod record_message;
 mod same;
 mod spec_message;
 mod state_message;
+mod state_object;
 mod stream_blob;
 mod stream_status;
 mod trace_message;
@@ -32,5 +33,6 @@ pub use message::{
 pub use read::{MessageReader, MessageType, read_message};
 pub use same::{same_laws, same_state};
 pub use state_message::state_of;
+pub use state_object::StateObject;
 pub use stream_status::StreamStatus;
 pub use view::{MessageView, RecordView, StreamView, own_id, own_message, own_record};

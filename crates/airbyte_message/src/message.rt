@@ -1,5 +1,5 @@
 // The messages of the protocol.
-use crate::{FailureType, Level, StreamStatus};
+use crate::{FailureType, Level, StateObject, StreamStatus};
 use basics::{Bytes, Name, Sequence, StreamId};
 
 /// The text of a JSON value, as it stood in its line.
@@ -19,8 +19,8 @@ pub struct RecordMsg {
 /// A state of a source.
 #[derive(Debug, Drop)]
 pub struct StateMsg {
-    /// The member `state`, an object that nests at most 124 deep.
-    pub object: Raw,
+    /// The member `state`.
+    pub object: StateObject,
     pub kind: StateKind,
     /// The member `recordCount` of `sourceStats`; below 2^63.
     pub source_count: Option<u64>,

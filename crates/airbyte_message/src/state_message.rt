@@ -6,7 +6,7 @@ ghost use Rattle.json_fields.specs.Parts.{HasOptionalCount};
 ghost use Rattle.airbyte_message.specs.States.{HasStats, HasStateType, IsKind, IsState, IsStateType};
 
 use crate::stream_blob::{global_of, stream_of};
-use crate::{StateKind, StateMsg, StreamBlob};
+use crate::{StateKind, StateMsg, StateObject, StreamBlob};
 use basics::{Bytes, Name, NoMemory};
 use json_fields::{cut, optional, optional_count, optional_text};
 use json_span::{MAX_DEPTH, MemberList};
@@ -122,7 +122,7 @@ pub fn state_of(alloc: Global, text: &[u8]) -> Result<Option<StateMsg>, NoMemory
         return Ok(None);
     };
     Ok(Some(StateMsg {
-        object: Bytes::copy_of(alloc, text)?,
+        object: StateObject::new(Bytes::copy_of(alloc, text)?),
         kind,
         source_count,
     }))

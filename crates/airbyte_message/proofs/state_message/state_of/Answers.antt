@@ -1,4 +1,4 @@
-use Rattle.std.proofs.Common.{List, ℕ, ap, sym}
+use Rattle.std.proofs.Common.{List, ℕ, ap, sym, ◌∙◌}
 use Rattle.airbyte_message.specs.States.{HasStateType, IsKind, HasStats, IsState, state_depth}
 use Rattle.json_fields.proofs.AnswerLemmas.{along, along_only, uncut, within}
 use Rattle.airbyte_message.proofs.StateLemmas.{state_msg, state_answer, state_uncut, state_untyped, state_no_kind, state_no_count}
@@ -24,4 +24,4 @@ returns c =
     let text = c.args.text.now in
     let cut = within state_depth text c.in_ok-members.field-0 c.in-Some.members c.in-Some.is c.in_ok-members.ensures.within in
     let typed = along (HasStateType text) c.in-Some-2.is c.in_ok-state_type.ensures in
-    along_only (IsState text) (ap (λ (o : List ℕ). state_msg o c.in-Some-3.kind c.in-Some-4.source_count) (sym c.in_ok-copy_of.ensures)) (state_answer text c.in-Some.members c.in-Some-2.state_type c.in-Some-3.kind c.in-Some-4.source_count cut typed (along (IsKind c.in-Some-2.state_type text) c.in-Some-3.is c.in_ok-kind.ensures) (along (HasStats text) c.in-Some-4.is c.in_ok-source_count.ensures))
+    along_only (IsState text) (ap (λ (o : List ℕ). state_msg o c.in-Some-3.kind c.in-Some-4.source_count) (sym (c.new.ensures ∙ c.in_ok-copy_of.ensures))) (state_answer text c.in-Some.members c.in-Some-2.state_type c.in-Some-3.kind c.in-Some-4.source_count cut typed (along (IsKind c.in-Some-2.state_type text) c.in-Some-3.is c.in_ok-kind.ensures) (along (HasStats text) c.in-Some-4.is c.in_ok-source_count.ensures))
