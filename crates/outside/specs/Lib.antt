@@ -9,6 +9,7 @@ pub mod Status
 pub mod Winners
 pub mod WinnerMap
 pub mod Tables
+pub mod Places
 pub mod Hand
 pub mod Dock
 pub mod ByteStreams
