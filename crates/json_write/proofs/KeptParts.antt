@@ -8,7 +8,7 @@ use Rattle.json_span.specs.Members.{AreMembers, IsMemberOf, text_at}
 use Rattle.json_span.specs.declared.Member.{Member}
 use Rattle.json_span.proofs.Parts.{are_parts}
 use Rattle.json_fields.specs.Fields.{HasField, HasOptional, Holds, HoldsBefore, line_depth}
-use Rattle.json_fields.specs.Parts.{Without}
+use Rattle.json_fields.specs.Parts.{Keeps}
 use Rattle.json_fields.proofs.OnlyLemmas.{members_same}
 use Rattle.json_write.specs.Values.{IsValueWithin}
 use Rattle.json_write.specs.Objects.{Part, named, object_text}
@@ -31,21 +31,9 @@ named_behind name (part ∷ parts) further value h = (Some value, named_behind n
 
 -- ---- members that are kept
 
--- the members whose keys are not left out, in order
-abbrev pub KeepsBut : (List ℕ → Type 0) → List ℕ → List Member → List Member → Type 0
-KeepsBut IsLeftOut text [] kept = kept ≡ []
-KeepsBut IsLeftOut text (member ∷ members) kept =
-    (others : List Member) × KeepsBut IsLeftOut text members others
-    × ((IsLeftOut (text_at text member.key) × (kept ≡ others)) ⊎ ((¬ IsLeftOut (text_at text member.key)) × (kept ≡ member ∷ others)))
-
--- the members without one name
-pub without_keeps : (text name : List ℕ) (members kept : List Member) → Without text name members kept → KeepsBut (λ key. IsString key name) text members kept
-without_keeps text name [] kept h = h
-without_keeps text name (m ∷ members) kept h = (h.0, without_keeps text name members h.0 h.1, h.2)
-
 module _ (IsLeftOut : List ℕ → Type 0) (text : List ℕ) where
   -- what holds of all members holds of those that are kept
-  pub kept_all : (P : Member → Type 0) (members kept : List Member) → KeepsBut IsLeftOut text members kept → All P members → All P kept
+  pub kept_all : (P : Member → Type 0) (members kept : List Member) → Keeps IsLeftOut text members kept → All P members → All P kept
   kept_all P [] kept h all = subst (λ (ms : List Member). All P ms) (sym h) all
   kept_all P (m ∷ members) kept h all = go (kept_all P members h.0 h.1 (All-tail P m members all)) h.2
     where
@@ -54,7 +42,7 @@ module _ (IsLeftOut : List ℕ → Type 0) (text : List ℕ) where
       go more (inr stays) = subst (λ (ms : List Member). All P ms) (sym stays.1) (All-cons P m h.0 (all 0 m (omega arith)) more)
 
   -- a name whose keys are not left out holds among them what it held
-  pub kept_holds : (name : List ℕ) → ((key : List ℕ) → IsLeftOut key → ¬ IsString key name) → (members kept : List Member) (found : Option (List ℕ)) → KeepsBut IsLeftOut text members kept → Holds text name members found → Holds text name kept found
+  pub kept_holds : (name : List ℕ) → ((key : List ℕ) → IsLeftOut key → ¬ IsString key name) → (members kept : List Member) (found : Option (List ℕ)) → Keeps IsLeftOut text members kept → Holds text name members found → Holds text name kept found
   kept_holds name unlike [] kept found h holds = subst (λ (ms : List Member). Holds text name ms found) (sym h) holds
   kept_holds name unlike (m ∷ members) kept found h holds = go (kept_holds name unlike members h.0 holds.0 h.1 holds.1) h.2
     where
@@ -102,7 +90,7 @@ pub record ReadsKept (IsLeftOut : List ℕ → Type 0) (limit : ℕ) (raw : List
   pub optional : (name : List ℕ) (found : Option (List ℕ)) → Stays IsLeftOut further name → HasOptional raw name found → HasOptional text name found
   pub written : (name value : List ℕ) → PartsHold name further (Some value) → HasField text name value
 
-module _ (IsLeftOut : List ℕ → Type 0) (limit : ℕ) (raw : List ℕ) (members kept : List Member) (further : List Part) (le : limit + 1 ≤ line_depth) (of : AreMembers (limit + 1) raw members) (keeps : KeepsBut IsLeftOut raw members kept) (sound : AreSound limit further) where
+module _ (IsLeftOut : List ℕ → Type 0) (limit : ℕ) (raw : List ℕ) (members kept : List Member) (further : List Part) (le : limit + 1 ≤ line_depth) (of : AreMembers (limit + 1) raw members) (keeps : Keeps IsLeftOut raw members kept) (sound : AreSound limit further) where
   text : List ℕ
   text = object_text (map (part_at raw) kept ++ further)
 
