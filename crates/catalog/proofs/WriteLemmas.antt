@@ -1,5 +1,5 @@
 -- A catalog's text grows by one member, and by one entry, after another.
-use Rattle.std.proofs.Common.{◌≡◌, ◌⊎◌, inl, inr, ℕ, zero, suc, List, [], ◌∷◌, ◌++◌, refl, sym, ◌∙◌, ap, subst, arith, ◌<◌, ◌≤◌, ◌+◌, length, take, map, slice_get, slice_index_or, codes, Bool, cond, nat_eq, append_assoc, append-nil, Some, decimal, length-append}
+use Rattle.std.proofs.Common.{◌≡◌, ℕ, zero, suc, List, [], ◌∷◌, ◌++◌, refl, sym, ◌∙◌, ap, subst, arith, ◌<◌, ◌≤◌, ◌+◌, length, take, map, slice_get, slice_index_or, codes, Bool, cond, nat_eq, append_assoc, append-nil, Some, decimal, length-append}
 use Rattle.std.specs.List.{AllZip, zip}
 use Rattle.std.proofs.lemmas.List.{take_more, take_all}
 use Rattle.std.proofs.lemmas.Bool.{ne_eqb}
