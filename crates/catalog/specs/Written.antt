@@ -78,6 +78,11 @@ with_gen pair entry = record pair.0 { generation = Some pair.1.generation; minim
 abbrev pub with_gens : List ConfStream → List Gen → List (List ℕ) → List ConfStream
 with_gens streams gens entries = map (λ p. with_gen p.0 p.1) (zip (zip streams gens) entries)
 
+-- the text is the catalog of these streams with these generations, and reads as them
+pub record ReadsBack (streams : List ConfStream) (gens : List Gen) (text : List ℕ) : Type 0 where
+  pub is : IsCatalogText streams gens text
+  pub reads : IsOnly (ReadsAs text) (Ok (with_gens streams gens is.entries))
+
 -- The text of a catalog with generations that fit reads as its streams with these generations; all else of them is the same,
 -- but for their entries.
 abbrev pub CatalogsReadBack : Type 0
