@@ -212,7 +212,7 @@ kind_only state_types.Legacy text kind.Legacy is = legacy_answer text
 kind_only _ text _ is = absurd is
 
 state_only : (text : List ℕ) (content : State) → IsState text content → IsOnly (IsState text) content
-state_only text content is = along_only (IsState text) (ap (λ (o : List ℕ). state_msg o content.kind content.source_count) (sym is.object)) (state_answer text is.nests.members is.type content.kind content.source_count is.nests.object (state_type_only text is.type is.typed) (kind_only is.type text content.kind is.kind) (stats_only text content.source_count is.count))
+state_only text content is = along_only (IsState text) (ap (λ (o : List ℕ). state_msg o content.kind content.source_count) (sym is.object)) (state_answer text is.nests.members is.type content.kind content.source_count is.line is.nests.object (state_type_only text is.type is.typed) (kind_only is.type text content.kind is.kind) (stats_only text content.source_count is.count))
 
 -- ---- traces
 
