@@ -1,5 +1,5 @@
 -- A line is at most one message: each part of what it is has one value.
-use Rattle.std.proofs.Common.{◌≡◌, ◌⊎◌, inl, inr, ℕ, Bool, true, false, cond, List, [], ◌∷◌, Option, None, Some, bytes_eq, codes, refl, sym, ◌∙◌, ap, subst, arith, ◌≤◌}
+use Rattle.std.proofs.Common.{◌≡◌, inl, inr, ℕ, Bool, true, false, cond, List, [], ◌∷◌, Option, None, Some, bytes_eq, codes, refl, sym, ◌∙◌, ap, subst, arith}
 use Rattle.std.specs.Option.{option_map}
 use Rattle.json_span.specs.Members.{text_at}
 use Rattle.json_span.specs.Elements.{AreElements}
@@ -7,8 +7,8 @@ use Rattle.json_span.specs.Machine.{read_whole}
 use Rattle.json_span.specs.declared.Span.{Span}
 use Rattle.json_span.specs.declared.phase.Frame.TheVariants as frame
 use Rattle.json_span.proofs.ArrayTheorems.{finds_only_array}
-use Rattle.json_fields.specs.Answer.{IsAnswer, IsOnly}
-use Rattle.json_fields.specs.Fields.{HasField, HasOptional, HasText, HasOptionalText, line_depth}
+use Rattle.json_fields.specs.Answer.{IsOnly}
+use Rattle.json_fields.specs.Fields.{HasOptional, HasText, HasOptionalText, line_depth}
 use Rattle.json_fields.proofs.AnswerLemmas.{along_only, at}
 use Rattle.json_fields.proofs.OnlyLemmas.{field_only, optional_only, text_only, optional_text_only, has_count_only, optional_count_only, object_only, array_only, number_only}
 use Rattle.basics.specs.declared.stream.StreamId.{StreamId}
