@@ -8,5 +8,6 @@ pub mod Traces
 pub mod Messages
 pub mod Echo
 pub mod Same
+pub mod EchoReads
 pub mod Views
 pub mod Laws

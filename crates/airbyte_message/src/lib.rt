@@ -24,7 +24,7 @@ mod view;
 
 pub use echo::echo_of;
 pub use failure_type::FailureType;
-pub use laws::{one_echo, one_message};
+pub use laws::{echoes_read_back, one_echo, one_message};
 pub use level::Level;
 pub use message::{
     CatalogMsg, ConnectionMsg, ControlMsg, LogMsg, Message, Raw, RecordMsg, SpecMsg, StateKind,
