@@ -35,4 +35,5 @@ pub use same::{same_laws, same_state};
 pub use state_message::state_of;
 pub use state_object::StateObject;
 pub use stream_status::StreamStatus;
+pub use trace_message::TraceType;
 pub use view::{MessageView, RecordView, StreamView, own_id, own_message, own_record};
