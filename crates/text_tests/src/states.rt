@@ -1,6 +1,6 @@
 // Which lines are states, and what they hold.
 use airbyte_message::{Message, StateKind, StateMsg, read_message};
-use basics::NoMemory;
+use basics::{Bytes, Copies, NoMemory};
 use std::alloc::{AllocError, Global};
 use std::test::Fail;
 
@@ -86,6 +86,31 @@ fn states_hold_their_members(rt: HostRuntime) -> Result<(), Fail> {
     Ok(())
 }
 
+// The object of a copy of the state that a line is.
+fn object_of_copy(alloc: Global, line: &str) -> Result<Option<Bytes>, NoMemory> {
+    match state_of(alloc, line)? {
+        Some(state) => {
+            let (object, _kind) = state.copy(alloc)?.into_parts();
+            Ok(Some(object.into_bytes()))
+        }
+        None => Ok(None),
+    }
+}
+
+#[test]
+fn a_copy_of_a_state_has_its_object(rt: HostRuntime) -> Result<(), Fail> {
+    for object in [
+        r#"{"type":"STREAM","stream":{"stream_descriptor":{"name":"a","namespace":""},"stream_state":1 }}"#,
+        r#"{"type":"GLOBAL","global":{"shared_state":{},"stream_states":[{"stream_descriptor":{"name":"a"}}]}}"#,
+        r#"{"data":{"cursor":3}}"#,
+    ] {
+        let line = format!(in rt.alloc(); r#"{{"type":"STATE","state":{object}}}"#)?;
+        let copied = object_of_copy(rt.alloc(), line.as_str())?.ok_or("no state")?;
+        assert_eq!(rt; copied.as_slice(), object.as_bytes(), "of {line}");
+    }
+    Ok(())
+}
+
 #[test]
 fn other_states_are_no_messages(rt: HostRuntime) -> Result<(), Fail> {
     for line in [
@@ -112,6 +137,7 @@ fn other_states_are_no_messages(rt: HostRuntime) -> Result<(), Fail> {
         r#"{"type":"RECORD","state":{"type":"STREAM","stream":{"stream_descriptor":{"name":"a"}}}}"#,
         r#"{"type":"STATE","state":{"type":"STREAM","stream":{"stream_descriptor":{"name":"a"}}}"#,
         r#"{"type":"STATE","state":{"type":"STREAM","stream":{"stream_descriptor":{"name":"a"},}}}"#,
+        "{\"type\":\"STATE\",\"state\":{\"type\":\"STREAM\",\n\"stream\":{\"stream_descriptor\":{\"name\":\"a\"}}}}",
     ] {
         assert!(rt;
             read_message(rt.alloc(), line.as_bytes())?.is_none(),
