@@ -1,6 +1,6 @@
 // Which lines are states, and what they hold.
 use airbyte_message::{Message, StateKind, StateMsg, read_message};
-use basics::NoMemory;
+use basics::{Bytes, Copies, NoMemory};
 use std::alloc::{AllocError, Global};
 use std::test::Fail;
 
@@ -65,11 +65,11 @@ fn states_hold_their_members(rt: HostRuntime) -> Result<(), Fail> {
         ),
     ] {
         let state = state_of(rt.alloc(), line)?.ok_or("no state")?;
-        let StateKind::Stream { id, blob: found } = &state.kind else {
+        let StateKind::Stream { id, blob: found } = state.kind() else {
             assert!(rt; false, "in {line}");
             return Ok(());
         };
-        assert_eq!(rt; state.object.as_slice(), object.as_bytes(), "in {line}");
+        assert_eq!(rt; state.object().as_slice(), object.as_bytes(), "in {line}");
         assert_eq!(rt; id.name.as_str(), stream, "in {line}");
         assert_eq!(rt;
             id.namespace.as_ref().map(|name| name.as_str()),
@@ -81,7 +81,32 @@ fn states_hold_their_members(rt: HostRuntime) -> Result<(), Fail> {
             blob.map(|text| text.as_bytes()),
             "in {line}"
         );
-        assert_eq!(rt; state.source_count, count, "in {line}");
+        assert_eq!(rt; state.source_count(), count, "in {line}");
+    }
+    Ok(())
+}
+
+// The object of a copy of the state that a line is.
+fn object_of_copy(alloc: Global, line: &str) -> Result<Option<Bytes>, NoMemory> {
+    match state_of(alloc, line)? {
+        Some(state) => {
+            let (object, _kind) = state.copy(alloc)?.into_parts();
+            Ok(Some(object.into_bytes()))
+        }
+        None => Ok(None),
+    }
+}
+
+#[test]
+fn a_copy_of_a_state_has_its_object(rt: HostRuntime) -> Result<(), Fail> {
+    for object in [
+        r#"{"type":"STREAM","stream":{"stream_descriptor":{"name":"a","namespace":""},"stream_state":1 }}"#,
+        r#"{"type":"GLOBAL","global":{"shared_state":{},"stream_states":[{"stream_descriptor":{"name":"a"}}]}}"#,
+        r#"{"data":{"cursor":3}}"#,
+    ] {
+        let line = format!(in rt.alloc(); r#"{{"type":"STATE","state":{object}}}"#)?;
+        let copied = object_of_copy(rt.alloc(), line.as_str())?.ok_or("no state")?;
+        assert_eq!(rt; copied.as_slice(), object.as_bytes(), "of {line}");
     }
     Ok(())
 }
@@ -112,6 +137,7 @@ fn other_states_are_no_messages(rt: HostRuntime) -> Result<(), Fail> {
         r#"{"type":"RECORD","state":{"type":"STREAM","stream":{"stream_descriptor":{"name":"a"}}}}"#,
         r#"{"type":"STATE","state":{"type":"STREAM","stream":{"stream_descriptor":{"name":"a"}}}"#,
         r#"{"type":"STATE","state":{"type":"STREAM","stream":{"stream_descriptor":{"name":"a"},}}}"#,
+        "{\"type\":\"STATE\",\"state\":{\"type\":\"STREAM\",\n\"stream\":{\"stream_descriptor\":{\"name\":\"a\"}}}}",
     ] {
         assert!(rt;
             read_message(rt.alloc(), line.as_bytes())?.is_none(),
