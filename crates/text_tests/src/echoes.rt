@@ -30,7 +30,7 @@ const ECHOES: &[(&str, u64, &str)] = &[
 
 // The echo of a state of a stream.
 fn echo(alloc: Global, state: &StateMsg, count: u64) -> Result<Option<Bytes>, NoMemory> {
-    match &state.kind {
+    match state.kind() {
         StateKind::Stream { .. } => Ok(Some(echo_of(alloc, state, count)?)),
         _ => Ok(None),
     }

@@ -128,7 +128,7 @@ fn told(alloc: Global, message: &Message) -> Result<String, AllocError> {
         Message::Spec(spec) => told_size(alloc, "spec", spec.specification.len()),
         Message::Catalog(catalog) => told_size(alloc, "catalog", catalog.streams.len()),
         Message::Control(control) => told_size(alloc, "control", control.object.len()),
-        Message::State(state) => told_state(alloc, &state.kind),
+        Message::State(state) => told_state(alloc, state.kind()),
         Message::Rec(content) => format!(in alloc; "record {}", content.id.name.as_str()),
     }
 }

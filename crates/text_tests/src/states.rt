@@ -74,11 +74,11 @@ fn is_of(id: &StreamId, blob: &Option<Bytes>, want: &State) -> bool {
 
 // Whether a state holds what is wanted.
 fn holds(state: &StateMsg, want: &State) -> bool {
-    let kind = match &state.kind {
+    let kind = match state.kind() {
         StateKind::Stream { id, blob } => is_of(id, blob, want),
         _ => false,
     };
-    kind && state.object.as_slice() == want.object.as_bytes() && state.source_count == want.count
+    kind && state.object().as_slice() == want.object.as_bytes() && state.source_count() == want.count
 }
 
 // Whether the line is a state that holds what is wanted.
