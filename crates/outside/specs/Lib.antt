@@ -1,4 +1,5 @@
 pub mod Event
+pub mod FaultCounts
 pub mod Desk
 pub mod Link
 pub mod Faults

@@ -13,6 +13,7 @@ mod load;
 mod no_link;
 mod status;
 mod std_desk;
+mod std_streams;
 mod table;
 mod winner_map;
 mod winners;
@@ -37,6 +38,7 @@ pub use load::{DockCounts, Limits, Load, Marks, MarksList, Unmerged};
 pub use no_link::NoLink;
 pub use status::Status;
 pub use std_desk::StdDesk;
+pub use std_streams::{StdSink, StdSource};
 pub use table::{
     Generations, PlacedRow, PlacedRowList, StreamTable, StreamTableList, TableSide, Tables,
 };
