@@ -44,6 +44,19 @@ impl Machine {
         Ok(skip(text, at + 1, run_at(self.phase)))
     }
 
+    /// Makes the move that the byte here is known to make.
+    #[inline(always)]
+    fn make_one(&mut self, text: &[u8], at: usize, next: Move) -> Result<(), NoMemory>
+        requires place { at < length text.now }
+        requires simple { IsSimple next }
+        requires known { move_of self.old.phase (slice_index text.now at) ≡ next }
+        ensures taken { OnOk result (IsTaken text.now self.old at self.new (at + 1)) }
+        ensures made { OnOk result (self.new ≡ made next self.old at (at + 1)) }
+    {
+        self.make(next, at as u64)?;
+        Ok(())
+    }
+
     /// Makes the move that the byte here is known to make, where mostly white space may stand behind it.
     #[inline(always)]
     fn make_short(&mut self, text: &[u8], at: usize, next: Move) -> Result<usize, NoMemory>
@@ -345,16 +358,15 @@ impl Machine {
         self.make_at(text, last, Move::End)
     }
 
-    /// Reads a value, or the front of one.
-    #[inline(always)]
-    fn take_value(&mut self, text: &[u8], at: usize) -> Result<usize, NoMemory>
+    /// Reads a value that is no string, or the front of one.
+    #[inline(never)]
+    fn take_plain(&mut self, text: &[u8], at: usize) -> Result<usize, NoMemory>
         requires place { at < length text.now }
         requires phase { (self.old.phase ≡ phase.Value) ⊎ (self.old.phase ≡ phase.FirstItem) }
         ensures taken { IfOk result (IsTaken text.now self.old at self.new) }
         ensures further { IfOk result (λ to. (at < to) × (to ≤ length text.now)) }
     {
         match text[at] {
-            b'"' => self.take_string(text, at),
             b'1'..=b'9' => self.take_number(text, at),
             b'{' => self.make_short(text, at, Move::Open(Frame::Object)),
             b'[' => self.make_short(text, at, Move::Open(Frame::Array)),
@@ -365,6 +377,40 @@ impl Machine {
             b'-' => self.take_minus(text, at),
             _ => self.advance(text, at),
         }
+    }
+
+    /// Reads a value, or the front of one.
+    #[inline(always)]
+    fn take_value(&mut self, text: &[u8], at: usize) -> Result<usize, NoMemory>
+        requires place { at < length text.now }
+        requires phase { (self.old.phase ≡ phase.Value) ⊎ (self.old.phase ≡ phase.FirstItem) }
+        ensures taken { IfOk result (IsTaken text.now self.old at self.new) }
+        ensures further { IfOk result (λ to. (at < to) × (to ≤ length text.now)) }
+    {
+        if text[at] == b'"' {
+            return self.take_string(text, at);
+        }
+        self.take_plain(text, at)
+    }
+
+    /// Reads the end of a key, the colon right behind it and the value right behind that, or as much of the value as
+    /// stands here. An object is left to be read.
+    #[inline(always)]
+    fn take_near(&mut self, text: &[u8], at: usize) -> Result<usize, NoMemory>
+        requires place { at + 2 < length text.now }
+        requires ends { move_of self.old.phase (slice_index text.now at) ≡ moves.EndKey }
+        requires colon { slice_index text.now (at + 1) ≡ 58 }
+        ensures taken { IfOk result (IsTaken text.now self.old at self.new) }
+        ensures further { IfOk result (λ to. (at < to) × (to ≤ length text.now)) }
+    {
+        self.make_one(text, at, Move::EndKey)?;
+        let colon = at + 1;
+        self.make_one(text, colon, Move::Go(Phase::Value))?;
+        let value = colon + 1;
+        if text[value] == b'{' {
+            return Ok(value);
+        }
+        self.take_value(text, value)
     }
 
     /// Reads a key, its colon and its value, or as much of them as stands here.
@@ -379,7 +425,11 @@ impl Machine {
         if end == text.len() || text[end] != b'"' {
             return Ok(end);
         }
-        self.take_colon(text, end)
+        // Mostly no white space stands around the colon.
+        if text.len() - end > 2 && text[end + 1] == b':' && text[end + 2] > b' ' {
+            return self.take_near(text, end);
+        }
+        self.end_key(text, end)
     }
 
     /// Reads the end of a key, its colon and its value, or as much of them as stands here. An object or an array is
@@ -402,7 +452,7 @@ impl Machine {
         self.take_value(text, value)
     }
 
-    /// The same, for what stands behind an escape.
+    /// The same, out of line.
     #[inline(never)]
     fn end_key(&mut self, text: &[u8], at: usize) -> Result<usize, NoMemory>
         requires place { at < length text.now }
