@@ -1,5 +1,5 @@
 -- What the loop over members keeps: the machine on what was read, and whether a next key begins.
-use Rattle.std.proofs.Common.{◌≡◌, ℕ, ◌<◌, ◌≤◌, ◌⊎◌, Bool, true, List, length, get_or}
+use Rattle.std.proofs.Common.{◌≡◌, ℕ, ◌<◌, ◌⊎◌, Bool, true, List, length, get_or}
 use Rattle.json_span.specs.Table.{move_of}
 use Rattle.json_span.specs.Machine.{IsTaken}
 use Rattle.json_span.specs.declared.table.Move.TheVariants as moves
