@@ -9,7 +9,7 @@ ghost use Rattle.json_fields.specs.Parts.{HasCount, HasObject};
 ghost use Rattle.json_fields.specs.Words.{IsPlaceOf, IsSomeString, is_word, viewed};
 
 use crate::fields::is_null;
-use crate::view::{TextView, first_not_plain, string_view};
+use crate::view::{TextView, string_view};
 use basics::NoMemory;
 use json_span::{Member, is_object, is_string_of, whole_of};
 use std::alloc::Global;
@@ -23,9 +23,6 @@ fn is_key(alloc: Global, key: &[u8], name: &str) -> Result<bool, NoMemory>
     let inside = &key[1..key.len() - 1];
     if inside == name.as_bytes() {
         return Ok(true);
-    }
-    if first_not_plain(inside).is_none() {
-        return Ok(false);
     }
     is_string_of(alloc, key, name)
 }

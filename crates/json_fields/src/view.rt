@@ -47,7 +47,7 @@ fn is_plain(byte: u8) -> bool
 }
 
 // The first byte that does not stand for itself in a string.
-pub fn first_not_plain(bytes: &[u8]) -> Option<u8>
+fn first_not_plain(bytes: &[u8]) -> Option<u8>
     ensures { result ≡ find (λ byte. not (plain_test byte)) bytes.now }
 {
     bytes.iter().copied().find(|byte| !is_plain(*byte))
