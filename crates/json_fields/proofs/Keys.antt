@@ -7,7 +7,7 @@ use Rattle.std.proofs.lemmas.List.Elements.{All-cons}
 use Rattle.json_scalar.specs.Text.{IsString, is_plain}
 use Rattle.json_scalar.specs.Quotes.{in_quotes}
 use Rattle.json_scalar.proofs.Contents.{one_meaning}
-use Rattle.json_scalar.proofs.Plain.{plain_string, all_plain, first_other}
+use Rattle.json_scalar.proofs.Plain.{plain_string}
 use Rattle.json_span.specs.Members.{text_at}
 use Rattle.json_span.specs.declared.Member.{Member}
 use Rattle.json_fields.specs.Answer.{IsOnly}

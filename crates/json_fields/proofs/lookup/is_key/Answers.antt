@@ -8,5 +8,5 @@ returns-then-eq c =
     let key = c.args.key.now in
     let name = c.args.name.now in
     let inside = slice_range key 1 (length key - 1) in
-    let same : inside ≡ name = (bytes_eq-Decides inside c.as_bytes.result.now).0 (sym c.eq.ensures ∙ c.if-eq.true) ∙ c.as_bytes.ensures.value in
+    let same : inside ≡ name = (bytes_eq-Decides inside c.as_bytes-2.result.now).0 (sym c.eq.ensures ∙ c.if-eq.true) ∙ c.as_bytes-2.ensures.value in
     (λ yes. key_same key name c.requires.key c.requires.word same, λ named. refl)
