@@ -11,3 +11,4 @@ pub mod Tables
 pub mod Hand
 pub mod Dock
 pub mod ByteStreams
+pub mod Rows
