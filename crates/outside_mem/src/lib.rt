@@ -7,5 +7,6 @@ mod mem_desk;
 mod mem_dock;
 mod mem_store;
 
+pub use call_count::CallCount;
 pub use mem_desk::{MemDesk, NamedText, NamedTextList};
 pub use mem_dock::MemDock;
