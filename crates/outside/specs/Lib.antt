@@ -13,3 +13,4 @@ pub mod Places
 pub mod Hand
 pub mod Dock
 pub mod ByteStreams
+pub mod Rows

@@ -9,6 +9,7 @@ mod mem_sink;
 mod mem_source;
 mod mem_store;
 
+pub use call_count::CallCount;
 pub use mem_desk::{MemDesk, NamedText, NamedTextList};
 pub use mem_dock::MemDock;
 pub use mem_sink::MemSink;
