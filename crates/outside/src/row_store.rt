@@ -25,7 +25,13 @@ pub trait RowStore {
     /// The first rows of a table with ids above `after`, in order of their ids, at most `most` of them. There is none
     /// where the table has none, or there is no such table. Ids begin at 1. `Failed` raises `faults`; a store that
     /// finds rows out of order answers so.
-    fn page_after(&mut self, alloc: Global, table: &str, after: u64, most: u32) -> Result<NumberedRowList, Fault>
+    fn page_after(
+        &mut self,
+        alloc: Global,
+        table: &str,
+        after: u64,
+        most: u32,
+    ) -> Result<NumberedRowList, Fault>
         requires { 0 < most }
         ensures page { IfOk result (IsPage after most) }
         ensures first { IfOk result (IsFirstAfter (seen self.old) table.now after most) }

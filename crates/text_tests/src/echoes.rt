@@ -7,25 +7,25 @@ use std::test::Fail;
 
 const ECHOES: &[(&str, u64, &str)] = &[
     (
-            r#"{"type":"STATE","state":{"type":"STREAM","stream":{"stream_descriptor":{"name":"a"}},"destinationStats":{"recordCount":9}}}"#,
-            4,
-            r#"{"type":"STATE","state":{"type":"STREAM","stream":{"stream_descriptor":{"name":"a"}},"destinationStats":{"recordCount":4}}}"#,
-        ),
+        r#"{"type":"STATE","state":{"type":"STREAM","stream":{"stream_descriptor":{"name":"a"}},"destinationStats":{"recordCount":9}}}"#,
+        4,
+        r#"{"type":"STATE","state":{"type":"STREAM","stream":{"stream_descriptor":{"name":"a"}},"destinationStats":{"recordCount":4}}}"#,
+    ),
     (
-            r#"{"type":"STATE","state":{"type":"STREAM","stream":{"stream_descriptor":{"name":"a"},"stream_state":{"p":10.0}},"sourceStats":{"recordCount":2.0}}}"#,
-            2,
-            r#"{"type":"STATE","state":{"type":"STREAM","stream":{"stream_descriptor":{"name":"a"},"stream_state":{"p":10.0}},"sourceStats":{"recordCount":2.0},"destinationStats":{"recordCount":2}}}"#,
-        ),
+        r#"{"type":"STATE","state":{"type":"STREAM","stream":{"stream_descriptor":{"name":"a"},"stream_state":{"p":10.0}},"sourceStats":{"recordCount":2.0}}}"#,
+        2,
+        r#"{"type":"STATE","state":{"type":"STREAM","stream":{"stream_descriptor":{"name":"a"},"stream_state":{"p":10.0}},"sourceStats":{"recordCount":2.0},"destinationStats":{"recordCount":2}}}"#,
+    ),
     (
-            r#" {"state": {"d\u0065stinationStats":1 , "\u0074ype" : "STREAM", "x":1,"x":2, "stream":{ "stream_descriptor":{"name":"Zo\u00eb"} } ,"destinationStats":{}} , "type":"STATE"}"#,
-            18_446_744_073_709_551_615,
-            r#"{"type":"STATE","state":{"\u0074ype":"STREAM","x":1,"x":2,"stream":{ "stream_descriptor":{"name":"Zo\u00eb"} },"destinationStats":{"recordCount":18446744073709551615}}}"#,
-        ),
+        r#" {"state": {"d\u0065stinationStats":1 , "\u0074ype" : "STREAM", "x":1,"x":2, "stream":{ "stream_descriptor":{"name":"Zo\u00eb"} } ,"destinationStats":{}} , "type":"STATE"}"#,
+        18_446_744_073_709_551_615,
+        r#"{"type":"STATE","state":{"\u0074ype":"STREAM","x":1,"x":2,"stream":{ "stream_descriptor":{"name":"Zo\u00eb"} },"destinationStats":{"recordCount":18446744073709551615}}}"#,
+    ),
     (
-            r#"{"type":"STATE","state":{"type":"STREAM","stream":{"destinationStats":1,"stream_descriptor":{"name":"a"}},"destinationStats ":0}}"#,
-            0,
-            r#"{"type":"STATE","state":{"type":"STREAM","stream":{"destinationStats":1,"stream_descriptor":{"name":"a"}},"destinationStats ":0,"destinationStats":{"recordCount":0}}}"#,
-        ),
+        r#"{"type":"STATE","state":{"type":"STREAM","stream":{"destinationStats":1,"stream_descriptor":{"name":"a"}},"destinationStats ":0}}"#,
+        0,
+        r#"{"type":"STATE","state":{"type":"STREAM","stream":{"destinationStats":1,"stream_descriptor":{"name":"a"}},"destinationStats ":0,"destinationStats":{"recordCount":0}}}"#,
+    ),
 ];
 
 // The echo of a state of a stream.

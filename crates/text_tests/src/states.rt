@@ -78,7 +78,8 @@ fn holds(state: &StateMsg, want: &State) -> bool {
         StateKind::Stream { id, blob } => is_of(id, blob, want),
         _ => false,
     };
-    kind && state.object().as_slice() == want.object.as_bytes() && state.source_count() == want.count
+    kind && state.object().as_slice() == want.object.as_bytes()
+        && state.source_count() == want.count
 }
 
 // Whether the line is a state that holds what is wanted.
