@@ -151,10 +151,10 @@ asked id events stream winners mark fits (Some plan) at = λ e.
     let named : rows_merged (own_plan plan.id (plan_at (tables_of events) stream)) mark (table_in (tables_of events).streams plan.id) (merging_of plan.id events).merged ≡ rows_merged (Some plan) mark (table_in (tables_of events).streams plan.id) (merging_of plan.id events).merged = ap (λ (p : Option StreamPlan). rows_merged p mark (table_in (tables_of events).streams plan.id) (merging_of plan.id events).merged) (ap (own_plan plan.id) at ∙ own_is plan) in
     let rows : merged_at (events ++ Merged stream winners mark ∷ []) stream ≡ merged_on plan (rows_merged (Some plan) mark (table_in (tables_of events).streams plan.id) (merging_of plan.id events).merged) = ap (λ (p : Option StreamPlan). merged_for p after) at_after ∙ ap (merged_on plan) (merged_next plan.id events event ∙ named) in
     let made : winners_at (tables_of (events ++ Merged stream winners mark ∷ [])) stream ≡ (side_of plan (merged_table plan winners mark (table_in (tables_of events).streams plan.id))).winners =
-        ap (λ (p : Option StreamPlan). winners_for p (tables_of after)) at_after ∙ (ap (winners_for (Some plan)) (tables_next events event ∙ ap (λ (p : Option StreamPlan). tables_merged p winners mark store) at)
-        ∙ ap (λ (t : StreamTable). (side_of plan t).winners) (table_own (merged_table plan winners mark) plan.id store.streams (λ t. merged_id plan winners mark t plan.hidden refl))) in
+    ap (λ (p : Option StreamPlan). winners_for p (tables_of after)) at_after ∙ (ap (winners_for (Some plan)) (tables_next events event ∙ ap (λ (p : Option StreamPlan). tables_merged p winners mark store) at)
+    ∙ ap (λ (t : StreamTable). (side_of plan t).winners) (table_own (merged_table plan winners mark) plan.id store.streams (λ t. merged_id plan winners mark t plan.hidden refl))) in
     let own : AreWinnersOf (merged_on plan (rows_merged (Some plan) mark (table_in (tables_of events).streams plan.id) (merging_of plan.id events).merged)) (side_of plan (merged_table plan winners mark (table_in (tables_of events).streams plan.id))).winners =
-        subst (λ (rs : List RawRow). AreWinnersOf rs (side_of plan (merged_table plan winners mark (table_in (tables_of events).streams plan.id))).winners) rows (subst (λ (ws : List RawRow). AreWinnersOf (merged_at (events ++ Merged stream winners mark ∷ []) stream) ws) made fits.winners_are) in
+    subst (λ (rs : List RawRow). AreWinnersOf rs (side_of plan (merged_table plan winners mark (table_in (tables_of events).streams plan.id))).winners) rows (subst (λ (ws : List RawRow). AreWinnersOf (merged_at (events ++ Merged stream winners mark ∷ []) stream) ws) made fits.winners_are) in
     (fits.within, subst (λ (i : StreamId). AreWinnersOf (merged_on plan (rows_merged (Some plan) mark (table_in (tables_of events).streams i) (merging_of i events).merged)) (side_of plan (merged_table plan winners mark (table_in (tables_of events).streams i))).winners) same own))
 
 after_fits : (id : StreamId) (events : List Event) (event : Event) → Fits events event → SidesAt id events → SidesFit (tables_after (tables_of events) event).places (rows_after id (tables_of events) (merging_of id events).merged event) (table_in (tables_after (tables_of events) event).streams id)

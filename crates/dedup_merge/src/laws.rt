@@ -1,5 +1,5 @@
 // Laws of merges.
-ghost use Rattle.dedup_merge.specs.Laws.{FittingMergesHaveWinners, AllMerged, ExceededRowDoesNotFit};
+ghost use Rattle.dedup_merge.specs.Laws.{FittingMergesHaveWinners, AllMerged, PagesMergeAll, ExceededRowDoesNotFit};
 
 /// Behind events whose merges fit, each side's winners are those of all rows that were merged into it.
 pub fn fitting_merges_have_winners()
@@ -9,6 +9,11 @@ pub fn fitting_merges_have_winners()
 /// A side of which all is merged has the winners of all rows that take part.
 pub fn all_merged()
     ensures { AllMerged }
+{}
+
+/// Behind any number of pages a side of which all is merged has the winners of all rows that take part.
+pub fn pages_merge_all()
+    ensures { PagesMergeAll }
 {}
 
 /// The merge of a row that another of its key exceeds does not fit.
