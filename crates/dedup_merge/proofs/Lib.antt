@@ -7,3 +7,5 @@ pub mod JoinLemmas
 pub mod SameRowLemmas
 pub mod LeftLemmas
 pub mod StandLemmas
+pub mod FitLemmas
+pub mod SideLemmas

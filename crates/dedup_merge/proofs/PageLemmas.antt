@@ -21,12 +21,14 @@ use Rattle.dedup_merge.specs.Faults.{fault_of}
 use Rattle.dedup_merge.specs.Merges.{unmerged_for, unmerged_at}
 use Rattle.dedup_merge.proofs.LeftLemmas.{left_at, lt_is, lt_from}
 use Rattle.dedup_merge.proofs.StandLemmas.{stands_on, all_merged}
+use Rattle.dedup_merge.proofs.FitLemmas.{page_fits}
+use Rattle.dedup_merge.proofs.SideLemmas.{side_fits}
 use Rattle.outside.specs.declared.load.Unmerged.{Unmerged}
 use Rattle.outside.specs.declared.table.Tables.{Tables}
 use Rattle.outside.specs.Winners.{put_winners}
 use Rattle.outside.specs.Dock.{IsPage, RoseExactlyBy}
 use Rattle.std.proofs.lemmas.List.{take-append-drop}
-use Rattle.dedup_merge.specs.Pages.{TakesIn, IsPageMerge, IsMergedWhole, PageAdds}
+use Rattle.dedup_merge.specs.Pages.{TakesIn, IsPageMerge, IsMergedWhole, FitsBehind, PageAdds}
 use Rattle.dedup_merge.proofs.KeyLemmas.{count_capped, count_of_front}
 use Rattle.dedup_merge.proofs.StepLemmas.{takes_in}
 use Rattle.outside.proofs.DockLaws.{read_wider}
@@ -113,6 +115,10 @@ page_merge (Some events) stream page next rows written is same takes =
       stands = stands_on store stream page written next.mark (tables_rise events) ends winners;
     }
 
+pub page_behind : (told : Option (List Event)) (stream page : ℕ) (next : Unmerged) (written : List RawRow) → IfSome (option_map tables_of told) (λ store. next ≡ page_of store stream page) → IfSome (option_map tables_of told) (λ store. IsPageMerge store stream page written next.mark) → IfSome told (FitsBehind stream written next.mark)
+page_behind None stream page next written is merge = is
+page_behind (Some events) stream page next written is merge = λ known fit. (let side = side_fits events stream fit in page_fits events stream page written next.mark merge.mark_is merge.winners known side.0 side.1)
+
 -- What is left
 
 none_more : (most : ℕ) → false ≡ nat_lt most 0
@@ -161,7 +167,7 @@ answer_done (Some events) now stream page next written added is done =
     subst (λ (o : Option (List Event)). IfSome (option_map tables_of o) (λ store. IsMergedWhole store stream)) (sym added) (record { none_left = none; winners_are = λ merged stands stamps. all_merged store stream merged stands none stamps })
 
 -- a page that could not be merged
-pub page_failed : (why : Fault) (stream page mark : ℕ) (written : List RawRow) (old new : DockSeen) → AddsOn {T = Unit {0}} (Err why) (Merged stream written mark) (dock_events old) (dock_events new) → new.face ≡ old.face → IfSome (tables old) (λ store. IsPageMerge store stream page written mark) → PageAdds (Err (fault_of why)) stream page old new
-page_failed fault.Failed stream page mark written old new (inl same) face merge = record { merges = inl same; face = face }
-page_failed fault.Failed stream page mark written old new (inr added) face merge = record { merges = inr (record { written = written; mark = mark; added = added; merge = merge }); face = face }
-page_failed fault.NoMemory stream page mark written old new adds face merge = record { events = adds; face = face }
+pub page_failed : (why : Fault) (stream page mark : ℕ) (written : List RawRow) (old new : DockSeen) → AddsOn {T = Unit {0}} (Err why) (Merged stream written mark) (dock_events old) (dock_events new) → new.face ≡ old.face → IfSome (tables old) (λ store. IsPageMerge store stream page written mark) → IfSome (dock_events old) (FitsBehind stream written mark) → PageAdds (Err (fault_of why)) stream page old new
+page_failed fault.Failed stream page mark written old new (inl same) face merge fits = record { merges = inl same; face = face }
+page_failed fault.Failed stream page mark written old new (inr added) face merge fits = record { merges = inr (record { written = written; mark = mark; added = added; merge = merge; fits = fits }); face = face }
+page_failed fault.NoMemory stream page mark written old new adds face merge fits = record { events = adds; face = face }

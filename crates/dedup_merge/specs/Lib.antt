@@ -4,3 +4,5 @@ pub mod Merges
 pub mod Steps
 pub mod Faults
 pub mod Pages
+pub mod Examples
+pub mod Laws

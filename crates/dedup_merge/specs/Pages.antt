@@ -1,14 +1,15 @@
 -- What a merge of one page does.
-use Rattle.std.specs.Prelude.{◌≡◌, ◌≢◌, ◌⊎◌, ◌↔◌, ℕ, ◌+◌, ◌*◌, List, [], ◌∷◌, ◌++◌, map, length, drop, option_to_list, slice_set, Bool, true, false, Option, None, Some, IfSome, Result, Ok, Err}
+use Rattle.std.specs.Prelude.{◌≡◌, ◌≢◌, ◌⊎◌, ◌↔◌, ℕ, ◌+◌, ◌*◌, List, [], ◌∷◌, ◌++◌, map, length, drop, option_to_list, slice_set, Bool, true, false, Option, None, Some, IfSome, IsSome, Result, Ok, Err}
 use Rattle.basics.specs.Told.{told_more}
 use Rattle.outside.specs.declared.event.Event.TheVariants as event
 use Rattle.outside.specs.declared.event.RawRow.{RawRow}
 use Rattle.outside.specs.declared.table.Tables.{Tables}
 use Rattle.outside.specs.Dock.{DockSeen, dock_events, tables, ReadAtMost}
-use Rattle.outside.specs.Tables.{page_of, winners_at, tables_after, row_of}
+use Rattle.outside.specs.declared.event.Event.{Event}
+use Rattle.outside.specs.Tables.{page_of, plan_at, winners_at, tables_after, tables_of, row_of}
 use Rattle.outside.specs.Winners.{put_winners, winner_in}
 use Rattle.dedup_merge.specs.Winners.{WinsAmong, AreWinnersOf, rows_of_key, key_count}
-use Rattle.dedup_merge.specs.Merges.{unmerged_at, parts_at, SideStands, HasOneOfAStamp}
+use Rattle.dedup_merge.specs.Merges.{unmerged_at, parts_at, SideStands, HasOneOfAStamp, FitsMerge, MergesFit}
 use Rattle.dedup_merge.specs.declared.pages.Merged.{Merged}
 use Rattle.dedup_merge.specs.declared.pages.Merged.TheVariants as merged
 use Rattle.dedup_merge.specs.declared.pages.MergeFault.{MergeFault}
@@ -31,12 +32,17 @@ pub record IsPageMerge (store : Tables) (stream most : ℕ) (written : List RawR
   pub left : unmerged_at (tables_after store (event.Merged stream written mark)) stream ≡ drop most (unmerged_at store stream)
   pub stands : (merged : List RawRow) → SideStands store stream merged → SideStands (tables_after store (event.Merged stream written mark)) stream (merged ++ (page_of store stream most).rows)
 
+-- the merge fits behind events whose merges fit, where the stream is one of the load
+abbrev pub FitsBehind : ℕ → List RawRow → ℕ → List Event → Type 0
+FitsBehind stream written mark events = IsSome (plan_at (tables_of events) stream) → MergesFit events → FitsMerge events stream written mark
+
 -- one merge was added, and nothing else
 pub record MergesPage (stream most : ℕ) (old new : DockSeen) : Type 0 where
   pub written : List RawRow
   pub mark : ℕ
   pub added : dock_events new ≡ told_more (event.Merged stream written mark ∷ []) (dock_events old)
   pub merge : IfSome (tables old) (λ store. IsPageMerge store stream most written mark)
+  pub fits : IfSome (dock_events old) (FitsBehind stream written mark)
 
 -- The page was merged, and the side's mark is at its end. At a fault it was merged or not, and what is known of the
 -- sides is that from before.

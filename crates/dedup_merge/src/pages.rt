@@ -114,7 +114,7 @@ fn winners_of_page<D: Dock>(
     for row in rows {
         take_row(alloc, dock, stream, &mut best, row)?;
     }
-    Ok(best.copied(alloc)?)
+    Ok(best.into_rows(alloc)?)
 }
 
 /// Merges the next rows of a stream that its side has not merged, at most `page` of them: reads them and the winner of

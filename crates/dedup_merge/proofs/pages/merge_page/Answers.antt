@@ -16,7 +16,7 @@ use Rattle.outside.specs.declared.event.RawRow.{RawRow}
 use Rattle.outside.proofs.DockLaws.{dock_grew_trans}
 use Rattle.dedup_merge.specs.Steps.{side_of_store}
 use Rattle.dedup_merge.specs.Pages.{TakesIn}
-use Rattle.dedup_merge.proofs.PageLemmas.{page_reads, page_merge, page_failed, answer_more, answer_done}
+use Rattle.dedup_merge.proofs.PageLemmas.{page_reads, page_merge, page_behind, page_failed, answer_more, answer_done}
 use Rattle.dedup_merge.proofs.pages.merge_page.Goals as goal
 
 pub returns-in_err-winners-clause-grew : goal.returns-in_err-winners-clause-grew
@@ -47,12 +47,14 @@ returns-then-next-clause-merges g c =
     let events : dock_events mid ≡ dock_events old = c.winners_of_page.ensures.only.events ∙ c.read_unmerged.ensures.events in
     let face : mid.face ≡ old.face = c.winners_of_page.ensures.only.face ∙ c.read_unmerged.ensures.face in
     let side : side_of_store c.args.stream (tables read) ≡ side_of_store c.args.stream (tables old) = ap (λ (es : Option (List Event)). side_of_store c.args.stream (option_map tables_of es)) c.read_unmerged.ensures.events in
+    let merge = page_merge (dock_events old) c.args.stream c.args.page next c.as_slice.result.now written c.in_ok-next.ensures.page c.as_slice.ensures (subst (λ (s : Option (List RawRow)). IfSome s (λ before. TakesIn c.as_slice.result.now before (put_winners before written))) side c.in_ok-winners.ensures.winners) in
     record {
       merges = record {
         written = written;
         mark = next.mark;
         added = c.in_ok-merge.ensures.events ∙ ap (λ (es : Option (List Event)). told_more (Merged c.args.stream written next.mark ∷ []) es) events;
-        merge = page_merge (dock_events old) c.args.stream c.args.page next c.as_slice.result.now written c.in_ok-next.ensures.page c.as_slice.ensures (subst (λ (s : Option (List RawRow)). IfSome s (λ before. TakesIn c.as_slice.result.now before (put_winners before written))) side c.in_ok-winners.ensures.winners);
+        merge = merge;
+        fits = page_behind (dock_events old) c.args.stream c.args.page next written c.in_ok-next.ensures.page merge;
       };
       face = c.in_ok-merge.ensures.face ∙ ap (λ (f : DockFace). record f { side_marks = slice_set f.side_marks c.args.stream next.mark }) face;
     }
@@ -73,12 +75,14 @@ returns-clause-merges g c =
     let events : dock_events mid ≡ dock_events old = c.winners_of_page.ensures.only.events ∙ c.read_unmerged.ensures.events in
     let face : mid.face ≡ old.face = c.winners_of_page.ensures.only.face ∙ c.read_unmerged.ensures.face in
     let side : side_of_store c.args.stream (tables read) ≡ side_of_store c.args.stream (tables old) = ap (λ (es : Option (List Event)). side_of_store c.args.stream (option_map tables_of es)) c.read_unmerged.ensures.events in
+    let merge = page_merge (dock_events old) c.args.stream c.args.page next c.as_slice.result.now written c.in_ok-next.ensures.page c.as_slice.ensures (subst (λ (s : Option (List RawRow)). IfSome s (λ before. TakesIn c.as_slice.result.now before (put_winners before written))) side c.in_ok-winners.ensures.winners) in
     record {
       merges = record {
         written = written;
         mark = next.mark;
         added = c.in_ok-merge.ensures.events ∙ ap (λ (es : Option (List Event)). told_more (Merged c.args.stream written next.mark ∷ []) es) events;
-        merge = page_merge (dock_events old) c.args.stream c.args.page next c.as_slice.result.now written c.in_ok-next.ensures.page c.as_slice.ensures (subst (λ (s : Option (List RawRow)). IfSome s (λ before. TakesIn c.as_slice.result.now before (put_winners before written))) side c.in_ok-winners.ensures.winners);
+        merge = merge;
+        fits = page_behind (dock_events old) c.args.stream c.args.page next written c.in_ok-next.ensures.page merge;
       };
       face = c.in_ok-merge.ensures.face ∙ ap (λ (f : DockFace). record f { side_marks = slice_set f.side_marks c.args.stream next.mark }) face;
     }
@@ -117,4 +121,4 @@ returns-in_err-merge-clause-merges g c =
     let merge = page_merge (dock_events old) c.args.stream c.args.page next c.as_slice.result.now written c.in_ok-next.ensures.page c.as_slice.ensures (subst (λ (s : Option (List RawRow)). IfSome s (λ before. TakesIn c.as_slice.result.now before (put_winners before written))) side c.in_ok-winners.ensures.winners) in
     let why : Fault = c.in_err-merge.field-0.0 in
     let adds : AddsOn {T = Unit {0}} (Err why) (Merged c.args.stream written next.mark) (dock_events old) (dock_events new) = subst (λ (es : Option (List Event)). AddsOn {T = Unit {0}} (Err why) (Merged c.args.stream written next.mark) es (dock_events new)) events c.in_err-merge.ensures.events in
-    failed_by c.from_residual-in_err-merge.result why c.args.stream c.args.page old new c.from_residual-in_err-merge.ensures.0 c.from_residual-in_err-merge.ensures.1 (page_failed why c.args.stream c.args.page next.mark written old new adds (c.in_err-merge.ensures.face ∙ face) merge)
+    failed_by c.from_residual-in_err-merge.result why c.args.stream c.args.page old new c.from_residual-in_err-merge.ensures.0 c.from_residual-in_err-merge.ensures.1 (page_failed why c.args.stream c.args.page next.mark written old new adds (c.in_err-merge.ensures.face ∙ face) merge (page_behind (dock_events old) c.args.stream c.args.page next written c.in_ok-next.ensures.page merge))
