@@ -1,15 +1,10 @@
 -- A message in place, from the members of its line.
-use Rattle.std.proofs.Common.{◌≡◌, ℕ, List, Option, None, Some, slice_get, slice_index_or, refl, sym, subst, codes}
+use Rattle.std.proofs.Common.{◌≡◌, ℕ, List, Option, None, Some, refl, codes}
 use Rattle.std.specs.Option.{option_map}
-use Rattle.json_span.specs.Members.{IsSomeObject, text_at}
-use Rattle.json_span.specs.Levels.{AreInside, IsCutInto, IsInside}
-use Rattle.json_span.specs.declared.Member.{Member}
+use Rattle.json_span.specs.Members.{IsSomeObject}
 use Rattle.json_fields.specs.Answer.{IsAnswer, IsOnly}
-use Rattle.json_fields.specs.Fields.{HasField, IsCut, line_depth}
-use Rattle.json_fields.specs.Words.{IsPlaceOf}
+use Rattle.json_fields.specs.Fields.{HasField}
 use Rattle.json_fields.proofs.AnswerLemmas.{at, wrapped}
-use Rattle.json_fields.proofs.FieldLemmas.{field_answer}
-use Rattle.json_fields.proofs.Keys.{get_at, value_at}
 use Rattle.airbyte_message.specs.Words.{payload_text}
 use Rattle.airbyte_message.specs.Messages.{IsMessage, IsPayload, IsRecord}
 use Rattle.airbyte_message.specs.Views.{HasPayload, HasRecord}
@@ -47,15 +42,3 @@ record_told line = wrapped (λ r. message.Rec r) (HasRecord line) (HasPayload li
 -- a payload that is no object is no record
 pub record_no_object : (payload : List ℕ) → ¬ IsSomeObject payload → IsAnswer (IsRecord payload) None
 record_no_object payload none = record_uncut payload (λ members are. none (record { deep = are.deep; members = members; object = are.object }))
-
--- what stands at a place
-pub field_at : (line name : List ℕ) (members : List Member) (place : ℕ) (d : Member) (value : List ℕ) → IsCut line members → IsPlaceOf line name members (Some place) → value ≡ text_at line (slice_index_or members place d).value → IsOnly (HasField line name) value
-field_at line name members place d value cut is e = field_answer line name members (Some value) cut (value_at line name members place d value is e)
-
-pub inside_at : (line name : List ℕ) (members : List Member) (inner : List (Option (List Member))) (place : ℕ) (d : Member) (value : List ℕ) (found : Option (List Member)) → AreInside line_depth line members inner → IsPlaceOf line name members (Some place) → value ≡ text_at line (slice_index_or members place d).value → slice_get inner place ≡ Some found → IsInside line_depth value found
-inside_at line name members inner place d value found inside is e got =
-    let m = slice_index_or members place d in
-    subst (λ (v : List ℕ). IsInside line_depth v found) (sym e) (inside.each place m (get_at members place d is.below) found got)
-
-pub cut_inside : (value : List ℕ) (members : List Member) → IsCutInto line_depth value members → IsCut value members
-cut_inside value members into = record { are = into.found; only = λ others are. (into.only are.deep others are.object).1; parts = into.parts }

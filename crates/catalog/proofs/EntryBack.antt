@@ -115,9 +115,7 @@ module _ (raw : List ℕ) (gen : Gen) (text : List ℕ) (kept : List Member) (fi
   entry_is : (entry : Entry) → IsEntry raw entry → IsEntry text (with_ids entry gen)
   unfolding gen_pairs with_ids
   entry_is entry is = record {
-    held = is.held;
-    field = k.field (codes "stream") is.held (stays (codes "stream") refl refl) is.field;
-    stream = is.stream;
+    stream = record { held = is.stream.held; field = k.field (codes "stream") is.stream.held (stays (codes "stream") refl refl) is.stream.field; is = is.stream.is };
     sync = text_back (codes "sync_mode") entry.sync (stays (codes "sync_mode") refl refl) is.sync;
     dest = text_back (codes "destination_sync_mode") entry.dest (stays (codes "destination_sync_mode") refl refl) is.dest;
     cursor = list_back _ (codes "cursor_field") entry.cursor (stays (codes "cursor_field") refl refl) is.cursor;

@@ -7,6 +7,7 @@ mod entry;
 mod judge;
 mod members;
 mod modes;
+mod parts;
 mod paths;
 mod read;
 mod stream;

@@ -4,3 +4,4 @@ pub mod KeepsLemmas
 pub mod Keys
 pub mod OnlyLemmas
 pub mod PartLemmas
+pub mod PlaceLemmas
