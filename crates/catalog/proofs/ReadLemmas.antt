@@ -89,7 +89,7 @@ judged_in_parts n text entry stream (Some sync) (Some dest) s d e =
     let none = three_fail (is_too_large entry.ids) (is_minimum_above entry.ids) (lacks_key dest key) (fault.TooLarge n) (fault.MinimumAboveGeneration n) (fault.NoKey n) r.0 in
     record { sync = sync; dest = dest; sync_is = s; dest_is = d; is = r.1; small = none.0; minimum = none.1; keyed = none.2 }
 
-judged_parts : (n : ℕ) (text : List ℕ) (entry : Entry) (stream : ConfStream) → judged_alone n text entry ≡ Ok stream → IsJudged text entry stream
+pub judged_parts : (n : ℕ) (text : List ℕ) (entry : Entry) (stream : ConfStream) → judged_alone n text entry ≡ Ok stream → IsJudged text entry stream
 judged_parts n text entry stream e = judged_in_parts n text entry stream (sync_mode_of entry.sync) (dest_mode_of entry.dest) refl refl e
 
 pub judged_again : (n : ℕ) (text : List ℕ) (entry : Entry) (stream : ConfStream) → IsJudged text entry stream → judged_alone n text entry ≡ Ok stream

@@ -16,4 +16,4 @@ pub use configured::Configured;
 pub use modes::{DestMode, SyncMode};
 pub use read::read_configured;
 pub use stream::{ConfStream, Gen, GenList};
-pub use write::{one_catalog_text, write_catalog};
+pub use write::{catalogs_read_back, one_catalog_text, write_catalog};

@@ -3,3 +3,7 @@ pub mod AmongLemmas
 pub mod KeyLemmas
 pub mod StepLemmas
 pub mod PageLemmas
+pub mod JoinLemmas
+pub mod SameRowLemmas
+pub mod LeftLemmas
+pub mod StandLemmas

@@ -71,7 +71,7 @@ pub sound_append : (limit : ℕ) (parts further : List Part) → AreSound limit 
 sound_append limit [] further a b = b
 sound_append limit (part ∷ parts) further a b = (a.0, sound_append limit parts further a.1 b)
 
--- A name that is neither left out nor written anew. Where the further members have names of their own, `Names.parts_hold` gives
+-- A name that is neither left out nor written anew. Where the further members have names of their own, `Names.pairs_hold` gives
 -- the second.
 pub record Stays (IsLeftOut : List ℕ → Type 0) (further : List Part) (name : List ℕ) : Type 0 where
   pub kept : (key : List ℕ) → IsLeftOut key → ¬ IsString key name

@@ -1,12 +1,12 @@
 -- What a name holds in an object that was written.
-use Rattle.std.proofs.Common.{◌≡◌, ◌⊎◌, inl, inr, ℕ, Bool, true, false, List, [], ◌∷◌, map, Option, None, Some, bytes_eq, refl, sym, ap, ◌∙◌, subst}
+use Rattle.std.proofs.Common.{◌≡◌, ◌⊎◌, inl, inr, ℕ, Bool, true, false, List, [], ◌∷◌, map, Option, None, Some, IsUtf8, bytes_eq, refl, sym, ap, ◌∙◌, subst}
 use Rattle.std.proofs.lemmas.Bool.{true≢false}
 use Rattle.std.proofs.lemmas.Slice.Eq.{bytes_eq-Decides}
 use Rattle.json.specs.Print.{quoted}
 use Rattle.json_scalar.specs.Text.{IsString}
 use Rattle.json_span.specs.declared.Member.{Member}
 use Rattle.json_fields.specs.Fields.{Holds, HoldsBefore}
-use Rattle.json_write.specs.Objects.{Part}
+use Rattle.json_write.specs.Objects.{Part, named}
 use Rattle.json_write.specs.Laws.{IsNamedPart, AreNamed, or_here, last_of, part_at}
 use Rattle.json_write.proofs.Strings.{quoted_string, quoted_only, quoted_same}
 
@@ -61,3 +61,32 @@ parts_hold name (part ∷ parts) named = (last_of name parts, parts_hold name pa
 
 pub names_hold : (text name : List ℕ) (members : List Member) (parts : List Part) → AreNamed parts → map (part_at text) members ≡ parts → Holds text name members (last_of name parts)
 names_hold text name members parts named e = from_parts text name members (last_of name parts) (subst (λ (ps : List Part). PartsHold name ps (last_of name parts)) (sym e) (parts_hold name parts named))
+
+-- ---- names with values, of which what is held is computed without the quotation marks
+
+abbrev pub named_parts : List (List ℕ × List ℕ) → List Part
+named_parts pairs = map (λ pair. named pair.0 pair.1) pairs
+
+abbrev pub last_by_name : List ℕ → List (List ℕ × List ℕ) → Option (List ℕ)
+last_by_name name [] = None
+last_by_name name (pair ∷ pairs) = or_here (last_by_name name pairs) (bytes_eq pair.0 name) pair.1
+
+same_quoted : (text name : List ℕ) → IsUtf8 text → bytes_eq (quoted text) (quoted name) ≡ bytes_eq text name
+same_quoted text name u = go (bytes_eq text name) refl (bytes_eq (quoted text) (quoted name)) refl
+  where
+    go : (plain : Bool) → bytes_eq text name ≡ plain → (inside : Bool) → bytes_eq (quoted text) (quoted name) ≡ inside → bytes_eq (quoted text) (quoted name) ≡ plain
+    go true e inside f = (bytes_eq-Decides (quoted text) (quoted name)).1 (ap quoted ((bytes_eq-Decides text name).0 e))
+    go false e false f = f
+    go false e true f = absurd (true≢false (sym ((bytes_eq-Decides text name).1 (sym (quoted_same text name u (sym ((bytes_eq-Decides (quoted text) (quoted name)).0 f))))) ∙ e))
+
+pub by_name : (name : List ℕ) (pairs : List (List ℕ × List ℕ)) → AreNamed (named_parts pairs) → last_of name (named_parts pairs) ≡ last_by_name name pairs
+by_name name [] named = refl
+by_name name (pair ∷ pairs) named =
+    let is = named.0 in
+    let utf8 : IsUtf8 pair.0 = subst IsUtf8 (sym (quoted_same is.name pair.0 is.utf8 is.key)) is.utf8 in
+    let rest = by_name name pairs named.1 in
+    let here = same_quoted pair.0 name utf8 in
+    λ i. or_here (rest i) (here i) pair.1
+
+pub pairs_hold : (name : List ℕ) (pairs : List (List ℕ × List ℕ)) → AreNamed (named_parts pairs) → PartsHold name (named_parts pairs) (last_by_name name pairs)
+pairs_hold name pairs named = subst (λ (found : Option (List ℕ)). PartsHold name (named_parts pairs) found) (by_name name pairs named) (parts_hold name (named_parts pairs) named)

@@ -10,8 +10,9 @@ use Rattle.outside.specs.declared.table.StreamTable.{StreamTable}
 use Rattle.outside.specs.declared.table.Tables.{Tables}
 use Rattle.outside.specs.Tables.{same_id, table_in, side_of, side_marks_of, plan_at, page_of, page_for, page_in, last_place, unmerged_in, is_unmerged, takes_part, row_of}
 use Rattle.outside.specs.Dock.{IsPage, IsPlace}
-use Rattle.raw_tables.specs.Store.{IsUpTo, TableFits, TablesFit}
-use Rattle.raw_tables.proofs.StoreLaws.{all_filtered}
+use Rattle.outside.specs.Places.{IsUpTo}
+use Rattle.outside.proofs.PlaceLaws.{all_filtered}
+use Rattle.raw_tables.specs.Store.{TableFits, TablesFit}
 
 abbrev IsAbove : ℕ → PlacedRow → Type 0
 IsAbove mark placed = mark < placed.place
