@@ -72,7 +72,7 @@ module _ (object : List ℕ) (members kept : List Member) (count : ℕ) (small :
   unfolding escape_byte
   type_back type has =
       let text = has.optional in
-      record { name = has.name; optional = record { held = text.held; optional = r.optional (codes "type") text.held (stays (codes "type") count small refl refl) text.optional; string = text.string }; is = has.is }
+      record { name = has.name; optional = record { held = text.held; optional = r.optional (codes "type") text.held (stays (codes "type") count small refl refl) text.optional; string = text.string }; named = has.named }
 
   stats_back : (told : Option ℕ) → HasStats object told → HasStats (echoed_object object kept count) told
   unfolding escape_byte
@@ -80,7 +80,7 @@ module _ (object : List ℕ) (members kept : List Member) (count : ℕ) (small :
 
   kind_back : (type : StateType) (what : StateKind) → IsKind type object what → IsKind type (echoed_object object kept count) what
   unfolding escape_byte
-  kind_back state_types.Stream (kind.Stream id blob) is = record { stream = is.stream; field = r.field (codes "stream") is.stream (stays (codes "stream") count small refl refl) is.field; is = is.is }
+  kind_back state_types.Stream (kind.Stream id blob) is = record { stream = is.stream; field = r.field (codes "stream") is.stream (stays (codes "stream") count small refl refl) is.field; blob = is.blob }
   kind_back state_types.Global (kind.Global shared streams) is = record { global = is.global; field = r.field (codes "global") is.global (stays (codes "global") count small refl refl) is.field; shared = is.shared; streams = is.streams }
   kind_back state_types.Legacy kind.Legacy is = tt
   kind_back _ _ is = absurd is
@@ -146,7 +146,7 @@ module _ (state : State) (count : ℕ) (small : count < 2 ^ 64) (is : IsState st
     typed = has_text line_depth (object_text (line_parts text)) (line_parts text) line_read (codes "type") (codes "STATE") (IsUtf8-are_ascii (codes "STATE") refl) refl;
     payload = text;
     field = has_field line_depth (object_text (line_parts text)) (line_parts text) line_read (codes "state") text refl;
-    is = echoed_is;
+    told = echoed_is;
   }
 
   pub line_back : ReadsAsEcho state count (object_text (line_parts text))
@@ -161,4 +161,4 @@ module _ (state : State) (count : ℕ) (small : count < 2 ^ 64) (is : IsState st
 pub echo_back : (state : State) (count : ℕ) (line : List ℕ) → IsState state.object state → count < 2 ^ 64 → IsEcho state.object count line → ReadsAsEcho state count line
 unfolding text
 echo_back state count line is small echo =
-    subst (λ (l : List ℕ). ReadsAsEcho state count l) (sym (echo.is ∙ echo_written state.object echo.kept count)) (line_back state count small is echo.members echo.kept echo.are echo.without)
+    subst (λ (l : List ℕ). ReadsAsEcho state count l) (sym (echo.spelled ∙ echo_written state.object echo.kept count)) (line_back state count small is echo.members echo.kept echo.are echo.without)

@@ -173,13 +173,13 @@ stats_only text count has = go has.held has.optional has.stats
     go (Some stats) optional s = has_stats text stats (Some count) (optional_only text (codes "sourceStats") (Some stats) optional) (optional_count_only stats (codes "recordCount") count s)
 
 state_type_only : (text : List ℕ) (type : StateType) → HasStateType text type → IsOnly (HasStateType text) type
-state_type_only text type has = state_type_at text has.name (Some type) (optional_text_only text (codes "type") has.name has.optional) (record { is = has.is; only = λ other is. sym (state_type_is has.name other is) ∙ state_type_is has.name type has.is })
+state_type_only text type has = state_type_at text has.name (Some type) (optional_text_only text (codes "type") has.name has.optional) (record { is = has.named; only = λ other is. sym (state_type_is has.name other is) ∙ state_type_is has.name type has.named })
 
 blob_only : (text : List ℕ) (part : StreamBlob) → IsStreamBlob text part → IsOnly (IsStreamBlob text) part
 blob_only text part is = stream_blob_answer text part.id part.blob (descriptor_only text part.id is.id) (optional_only text (codes "stream_state") part.blob is.blob)
 
 stream_only : (text : List ℕ) (part : StreamBlob) → IsStreamState text part → IsOnly (IsStreamState text) part
-stream_only text part is = stream_at text is.stream (Some part) (field_only text (codes "stream") is.stream is.field) (blob_only is.stream part is.is)
+stream_only text part is = stream_at text is.stream (Some part) (field_only text (codes "stream") is.stream is.field) (blob_only is.stream part is.blob)
 
 elements_same : (text : List ℕ) (spans others : List Span) → AreElements line_depth text spans → AreElements line_depth text others → others ≡ spans
 elements_same text spans others a b =
@@ -228,7 +228,7 @@ told_only trace_types.Analytics text emitted_at (trace.Other object) is = along_
 told_only _ text emitted_at _ is = absurd is
 
 trace_only : (text : List ℕ) (content : TraceMsg) → IsTrace text content → IsOnly (IsTrace text) content
-trace_only text content is = trace_answer text is.type is.emitted_at (Some content) (word_only trace_text trace_of trace_is text (codes "type") is.type is.typed) (number_only text (codes "emitted_at") is.emitted_at is.number) (told_only is.type text is.emitted_at content is.is)
+trace_only text content is = trace_answer text is.type is.emitted_at (Some content) (word_only trace_text trace_of trace_is text (codes "type") is.type is.typed) (number_only text (codes "emitted_at") is.emitted_at is.number) (told_only is.type text is.emitted_at content is.told)
 
 -- ---- messages
 
@@ -244,4 +244,4 @@ payload_only types.Control text (message.Control content) is = control_payload t
 payload_only _ text _ is = absurd is
 
 pub message_only : (line : List ℕ) (content : Message) → IsMessage line content → IsOnly (IsMessage line) content
-message_only line content is = message_at_type line is.type (Some content) (word_only type_text type_of type_is line (codes "type") is.type is.typed) (payload_at line is.payload is.type (Some content) (field_only line (payload_text is.type) is.payload is.field) (payload_only is.type is.payload content is.is))
+message_only line content is = message_at_type line is.type (Some content) (word_only type_text type_of type_is line (codes "type") is.type is.typed) (payload_at line is.payload is.type (Some content) (field_only line (payload_text is.type) is.payload is.field) (payload_only is.type is.payload content is.told))

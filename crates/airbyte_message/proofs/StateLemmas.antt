@@ -43,7 +43,7 @@ has_stats text stats (Some count) optional only = record {
 
 -- the type of a state
 pub state_type_at : (text : List ℕ) (name : Option (List ℕ)) (found : Option StateType) → IsOnly (HasOptionalText text (codes "type")) name → IsAnswer (IsStateType name) found → IsAnswer (HasStateType text) found
-state_type_at text = at (HasOptionalText text (codes "type")) IsStateType (HasStateType text) (λ n t optional is. record { name = n; optional = optional; is = is }) (λ t has. (has.name, has.optional, has.is))
+state_type_at text = at (HasOptionalText text (codes "type")) IsStateType (HasStateType text) (λ n t optional is. record { name = n; optional = optional; named = is }) (λ t has. (has.name, has.optional, has.named))
 
 pub state_type_absent : (text : List ℕ) → IsAnswer (HasOptionalText text (codes "type")) None → IsAnswer (HasStateType text) None
 state_type_absent text none = λ t has. none has.name has.optional
@@ -62,7 +62,7 @@ pub stream_blob_uncut : (text : List ℕ) → ((members : List Member) → ¬ Ar
 stream_blob_uncut text none = λ part is. none is.id.field.members is.id.field.object
 
 pub stream_at : (text stream : List ℕ) (found : Option StreamBlob) → IsOnly (HasField text (codes "stream")) stream → IsAnswer (IsStreamBlob stream) found → IsAnswer (IsStreamState text) found
-stream_at text = at (HasField text (codes "stream")) IsStreamBlob (IsStreamState text) (λ s part field is. record { stream = s; field = field; is = is }) (λ part has. (has.stream, has.field, has.is))
+stream_at text = at (HasField text (codes "stream")) IsStreamBlob (IsStreamState text) (λ s part field is. record { stream = s; field = field; blob = is }) (λ part has. (has.stream, has.field, has.blob))
 
 pub stream_absent : (text : List ℕ) → IsAnswer (HasField text (codes "stream")) None → IsAnswer (IsStreamState text) None
 stream_absent text none = λ part has. none has.stream has.field

@@ -68,7 +68,7 @@ pub record IsMessage (line : List ℕ) (content : Message) : Type 0 where
   pub typed : HasText line (codes "type") (type_text type)
   pub payload : List ℕ
   pub field : HasField line (payload_text type) payload
-  pub is : IsPayload type payload content
+  pub told : IsPayload type payload content
 
 abbrev pub IsStateLine : List ℕ → State → Type 0
 IsStateLine line state = IsMessage line (message.State state)

@@ -33,7 +33,7 @@ IsStateType name types.Legacy = (name ≡ None) ⊎ (name ≡ Some (codes "LEGAC
 pub record HasStateType (text : List ℕ) (type : StateType) : Type 0 where
   pub name : Option (List ℕ)
   pub optional : HasOptionalText text (codes "type") name
-  pub is : IsStateType name type
+  pub named : IsStateType name type
 
 -- a stream and its blob, which is the source's own
 pub record IsStreamBlob (text : List ℕ) (part : StreamBlob) : Type 0 where
@@ -44,7 +44,7 @@ pub record IsStreamBlob (text : List ℕ) (part : StreamBlob) : Type 0 where
 pub record IsStreamState (text : List ℕ) (part : StreamBlob) : Type 0 where
   pub stream : List ℕ
   pub field : HasField text (codes "stream") stream
-  pub is : IsStreamBlob stream part
+  pub blob : IsStreamBlob stream part
 
 -- the elements of an array at these places are these streams and their blobs, in this order
 abbrev pub AreStreamBlobs : List ℕ → List Span → List StreamBlob → Type 0

@@ -109,7 +109,7 @@ fn object_of_copy(alloc: Global, line: &str) -> Result<Option<Bytes>, NoMemory> 
 }
 
 // Whether a copy of the state of this object has the object.
-fn copies(alloc: Global, object: &str) -> Result<bool, AllocError> {
+fn copies(alloc: Global, object: &str) -> Result<bool, NoMemory> {
     let line = format!(in alloc; r#"{{"type":"STATE","state":{object}}}"#)?;
     Ok(is_text(&object_of_copy(alloc, line.as_str())?, Some(object)))
 }
