@@ -1,7 +1,7 @@
 // The worker says its lines.
 ghost use Rattle.std.specs.Prelude.{◌≡◌, ◌++◌, ◌∷◌, [], option_to_list, OnOk, IsErrOf};
 ghost use Rattle.worker_run.specs.EventParts.{rows_of};
-ghost use Rattle.worker_run.specs.Output.{usage_line, saved_line, attempt_line, status_line, table_line as table_line_of, table_lines, table_at, end_lines, body_lines, committed_lines};
+ghost use Rattle.worker_run.specs.Output.{usage_line, saved_line, attempt_line, status_line, table_line as table_line_of, table_lines, table_at, end_lines, row_line, body_lines, committed_lines};
 ghost use Rattle.outside.specs.Status.{status_text};
 ghost use Rattle.outside.specs.Desk.{SaidLines, SaidFront};
 
@@ -109,13 +109,24 @@ fn rows_in(event: &Event) -> &[RawRow]
     }
 }
 
+// Says the body of a row, by a line whose memory is kept.
+fn say_row<K: Desk>(line: &mut Bytes, desk: &mut K, body: &[u8]) -> Result<(), Fault>
+    ensures ok { OnOk result (SaidLines (row_line body.now ∷ []) (K.seen desk.old) (K.seen desk.new)) }
+    ensures front { SaidFront (IsErrOf result Fault.Failed) (row_line body.now ∷ []) (K.seen desk.old) (K.seen desk.new) }
+{
+    line.clear();
+    line.extend(b"row ")?;
+    line.extend(body)?;
+    desk.say(line.as_slice())
+}
+
 // Says the bodies of rows.
-fn say_bodies<K: Desk>(alloc: Global, desk: &mut K, rows: &[RawRow]) -> Result<(), Fault>
+fn say_bodies<K: Desk>(line: &mut Bytes, desk: &mut K, rows: &[RawRow]) -> Result<(), Fault>
     ensures ok { OnOk result (SaidLines (body_lines rows.now) (K.seen desk.old) (K.seen desk.new)) }
     ensures front { SaidFront (IsErrOf result Fault.Failed) (body_lines rows.now) (K.seen desk.old) (K.seen desk.new) }
 {
     for row in rows {
-        say_joined(alloc, desk, b"row ", row.body.as_slice())?;
+        say_row(line, desk, row.body.as_slice())?;
     }
     Ok(())
 }
@@ -125,8 +136,9 @@ fn say_committed<K: Desk>(alloc: Global, desk: &mut K, events: &[Event]) -> Resu
     ensures ok { OnOk result (SaidLines (committed_lines events.now) (K.seen desk.old) (K.seen desk.new)) }
     ensures front { SaidFront (IsErrOf result Fault.Failed) (committed_lines events.now) (K.seen desk.old) (K.seen desk.new) }
 {
+    let mut line = Bytes::new(alloc);
     for event in events {
-        say_bodies(alloc, desk, rows_in(event))?;
+        say_bodies(&mut line, desk, rows_in(event))?;
     }
     Ok(())
 }
