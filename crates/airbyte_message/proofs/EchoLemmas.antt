@@ -8,7 +8,7 @@ use Rattle.json_fields.specs.Parts.{NestsWithin, Without}
 use Rattle.airbyte_message.specs.Echo.{IsEcho, member_text, echo_text}
 use Rattle.airbyte_message.specs.States.{state_depth}
 use Rattle.json_fields.proofs.OnlyLemmas.{members_same}
-use Rattle.json_fields.proofs.WithoutLemmas.{Without-only}
+use Rattle.json_fields.proofs.KeepsLemmas.{Without-only}
 
 pub state_is_cut : (object shown : List ℕ) → shown ≡ object → NestsWithin state_depth object → ((members : List Member) → ¬ AreMembers line_depth shown members) → ⊥
 state_is_cut object shown e nests none =

@@ -1,5 +1,5 @@
 -- A line is at most one message: each part of what it is has one value.
-use Rattle.std.proofs.Common.{◌≡◌, ◌⊎◌, inl, inr, ℕ, Bool, true, false, cond, List, [], ◌∷◌, Option, None, Some, bytes_eq, codes, refl, sym, ◌∙◌, ap, subst, arith, ◌≤◌}
+use Rattle.std.proofs.Common.{◌≡◌, inl, inr, ℕ, Bool, true, false, cond, List, [], ◌∷◌, Option, None, Some, bytes_eq, codes, refl, sym, ◌∙◌, ap, subst, arith}
 use Rattle.std.specs.Option.{option_map}
 use Rattle.json_span.specs.Members.{text_at}
 use Rattle.json_span.specs.Elements.{AreElements}
@@ -7,8 +7,8 @@ use Rattle.json_span.specs.Machine.{read_whole}
 use Rattle.json_span.specs.declared.Span.{Span}
 use Rattle.json_span.specs.declared.phase.Frame.TheVariants as frame
 use Rattle.json_span.proofs.ArrayTheorems.{finds_only_array}
-use Rattle.json_fields.specs.Answer.{IsAnswer, IsOnly}
-use Rattle.json_fields.specs.Fields.{HasField, HasOptional, HasText, HasOptionalText, line_depth}
+use Rattle.json_fields.specs.Answer.{IsOnly}
+use Rattle.json_fields.specs.Fields.{HasOptional, HasText, HasOptionalText, line_depth}
 use Rattle.json_fields.proofs.AnswerLemmas.{along_only, at}
 use Rattle.json_fields.proofs.OnlyLemmas.{field_only, optional_only, text_only, optional_text_only, has_count_only, optional_count_only, object_only, array_only, number_only}
 use Rattle.basics.specs.declared.stream.StreamId.{StreamId}
@@ -32,7 +32,7 @@ use Rattle.airbyte_message.specs.declared.read.MessageType.TheVariants as types
 use Rattle.airbyte_message.specs.declared.message.Message.{Message}
 use Rattle.airbyte_message.specs.declared.message.Message.TheVariants as message
 use Rattle.airbyte_message.specs.declared.message.RecordMsg.{RecordMsg}
-use Rattle.airbyte_message.specs.declared.message.StateMsg.{StateMsg}
+use Rattle.airbyte_message.specs.State.{State}
 use Rattle.airbyte_message.specs.declared.message.StateKind.{StateKind}
 use Rattle.airbyte_message.specs.declared.message.StateKind.TheVariants as kind
 use Rattle.airbyte_message.specs.declared.message.StreamBlob.{StreamBlob}
@@ -211,8 +211,8 @@ kind_only state_types.Global text (kind.Global shared streams) is = global_answe
 kind_only state_types.Legacy text kind.Legacy is = legacy_answer text
 kind_only _ text _ is = absurd is
 
-state_only : (text : List ℕ) (content : StateMsg) → IsState text content → IsOnly (IsState text) content
-state_only text content is = along_only (IsState text) (ap (λ (o : List ℕ). state_msg o content.kind content.source_count) (sym is.object)) (state_answer text is.nests.members is.type content.kind content.source_count is.nests.object (state_type_only text is.type is.typed) (kind_only is.type text content.kind is.kind) (stats_only text content.source_count is.count))
+state_only : (text : List ℕ) (content : State) → IsState text content → IsOnly (IsState text) content
+state_only text content is = along_only (IsState text) (ap (λ (o : List ℕ). state_msg o content.kind content.source_count) (sym is.object)) (state_answer text is.nests.members is.type content.kind content.source_count is.line is.nests.object (state_type_only text is.type is.typed) (kind_only is.type text content.kind is.kind) (stats_only text content.source_count is.count))
 
 -- ---- traces
 

@@ -1,7 +1,9 @@
 pub mod Words
 pub mod Depths
+pub mod State
 pub mod Parts
 pub mod States
+pub mod Lanes
 pub mod Traces
 pub mod Messages
 pub mod Echo

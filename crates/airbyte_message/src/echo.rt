@@ -43,7 +43,7 @@ pub fn echo_of(alloc: Global, state: &StateMsg, count: u64) -> Result<Bytes, NoM
     requires { state.now.kind ≢ Legacy }
     ensures { IfOk result (IsEcho state.now.object count) }
 {
-    let object = state.object.as_slice();
+    let object = state.object().as_slice();
     let Some(members) = cut(alloc, object, MAX_DEPTH)? else {
         unreachable!()
     };

@@ -9,7 +9,7 @@ fn echo_of_line(alloc: Global, line: &str, count: u64) -> Result<Option<Bytes>, 
     let Some(Message::State(state)) = read_message(alloc, line.as_bytes())? else {
         return Ok(None);
     };
-    match &state.kind {
+    match state.kind() {
         StateKind::Stream { .. } => Ok(Some(echo_of(alloc, &state, count)?)),
         _ => Ok(None),
     }

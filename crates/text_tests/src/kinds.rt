@@ -34,7 +34,7 @@ fn told(alloc: Global, message: &Message) -> Result<String, AllocError> {
         Message::Control(control) => {
             format!(in alloc; "control of {} bytes", control.object.len())
         }
-        Message::State(state) => match &state.kind {
+        Message::State(state) => match state.kind() {
             StateKind::Stream { id, .. } => format!(in alloc; "stream {}", id.name.as_str()),
             StateKind::Global { shared, streams } => {
                 format!(in alloc; "global {} {}", shared.is_some(), streams.len())

@@ -65,11 +65,11 @@ fn states_hold_their_members(rt: HostRuntime) -> Result<(), Fail> {
         ),
     ] {
         let state = state_of(rt.alloc(), line)?.ok_or("no state")?;
-        let StateKind::Stream { id, blob: found } = &state.kind else {
+        let StateKind::Stream { id, blob: found } = state.kind() else {
             assert!(rt; false, "in {line}");
             return Ok(());
         };
-        assert_eq!(rt; state.object.as_slice(), object.as_bytes(), "in {line}");
+        assert_eq!(rt; state.object().as_slice(), object.as_bytes(), "in {line}");
         assert_eq!(rt; id.name.as_str(), stream, "in {line}");
         assert_eq!(rt;
             id.namespace.as_ref().map(|name| name.as_str()),
@@ -81,7 +81,7 @@ fn states_hold_their_members(rt: HostRuntime) -> Result<(), Fail> {
             blob.map(|text| text.as_bytes()),
             "in {line}"
         );
-        assert_eq!(rt; state.source_count, count, "in {line}");
+        assert_eq!(rt; state.source_count(), count, "in {line}");
     }
     Ok(())
 }

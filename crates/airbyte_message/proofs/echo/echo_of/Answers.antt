@@ -8,7 +8,7 @@ use Rattle.airbyte_message.proofs.echo.echo_of.Goals as goal
 
 pub unreachable-requires : goal.unreachable-requires
 unreachable-requires c =
-    state_is_cut c.args.state.now.object c.as_slice-object.result.now c.as_slice-object.ensures.text c.as_slice-object.ensures.nests (uncut line_depth c.as_slice-object.result.now c.in_ok-members.field-0 c.in_default.is c.in_ok-members.ensures.none)
+    state_is_cut c.args.state.now.object c.as_slice-object.result.now (c.as_slice-object.ensures.text ∙ c.object.ensures.object) c.object.ensures.state.nests (uncut line_depth c.as_slice-object.result.now c.in_ok-members.field-0 c.in_default.is c.in_ok-members.ensures.none)
 
 pub returns : goal.returns
 returns c =
@@ -17,4 +17,4 @@ returns c =
     let cut : IsCut shown c.in-Some.members = subst (λ (f : Option (List Member)). IfSome f (IsCut shown)) c.in-Some.is c.in_ok-members.ensures.cut in
     let told = c.in_ok-put_raw_members.ensures ∙ ap (λ (ms : List Member). c.extend.new.self ++ flat_map (member_text shown) ms) c.as_slice.ensures in
     echo_is object shown c.in-Some.members c.in_ok-kept.kept c.args.count c.in_ok-echo.echo c.extend.new.self c.put_raw_members.new.echo c.extend-2.new.self c.put_number.new.text c.extend-3.new.self
-    c.as_slice-object.ensures.text cut c.in_ok-kept.ensures.kept.is c.in_ok-echo.ensures c.in_ok-extend.ensures.ok told c.in_ok-extend-2.ensures.ok c.in_ok-put_number.ensures.ok c.in_ok-extend-3.ensures.ok
+    (c.as_slice-object.ensures.text ∙ c.object.ensures.object) cut c.in_ok-kept.ensures.kept.is c.in_ok-echo.ensures c.in_ok-extend.ensures.ok told c.in_ok-extend-2.ensures.ok c.in_ok-put_number.ensures.ok c.in_ok-extend-3.ensures.ok
