@@ -3,7 +3,7 @@ use Rattle.std.specs.Prelude.{ℕ, List, [], ◌++◌, ◌==◌, map, filter, fi
 use Rattle.std.specs.List.{list_any, zip}
 use Rattle.stream_index.specs.Same.{is_same_stream}
 use Rattle.basics.specs.declared.stream.StreamId.{StreamId}
-use Rattle.airbyte_message.specs.declared.message.StateMsg.{StateMsg}
+use Rattle.airbyte_message.specs.State.{State}
 use Rattle.airbyte_message.specs.declared.message.StateKind.{StateKind}
 use Rattle.airbyte_message.specs.declared.message.StateKind.TheVariants as kind
 use Rattle.outside.specs.declared.faults.StateFault.{StateFault}
@@ -78,5 +78,5 @@ put_kind (kind.Global shared streams) object set = put_global object set
 put_kind kind.Legacy object set = Err fault.Legacy
 
 -- The state takes the place of its lane's state, or is refused.
-abbrev pub put_into : StateMsg → Saved → Result Saved StateFault
+abbrev pub put_into : State → Saved → Result Saved StateFault
 put_into state set = put_kind state.kind state.object set

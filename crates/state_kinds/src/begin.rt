@@ -2,6 +2,7 @@
 ghost use Rattle.std.specs.Prelude.{◌≡◌, ◌≤◌, ◌++◌, length, map, take, drop, is_some, OnErr, OnOk, IfOk};
 ghost use Rattle.std.specs.List.{list_any};
 ghost use Rattle.std.specs.Option.{option_copied};
+ghost use Rattle.stream_index.specs.Distinct.{AreDistinct};
 ghost use Rattle.state_kinds.specs.Saved.{IsIndexOf, entry_ids, entry_of, has_states as some_has_state};
 ghost use Rattle.state_kinds.specs.Changes.{added as added_entries, generation_of, given_of, is_changed as is_pair_changed, is_of, renewed, renewed_to};
 
@@ -75,9 +76,11 @@ fn added(
     configured: &Configured,
     gens: &GenList,
 ) -> Result<Vec<SavedEntry>, NoMemory>
-    requires { length gens.now ≡ length configured.now }
+    requires distinct { AreDistinct index.old }
+    requires gens { length gens.now ≡ length configured.now }
     ensures added { IfOk result (λ added. added.items ≡ added_entries (given_of configured.now gens.now) index.old) }
     ensures index { IfOk result (λ added. index.new ≡ index.old ++ entry_ids added.items) }
+    ensures distinct { OnOk result (AreDistinct index.new) }
     ensures err { OnErr result (take (length index.old) index.new ≡ index.old) }
 {
     let mut added = Vec::new(alloc);
@@ -99,9 +102,11 @@ fn grow_both(
     configured: &Configured,
     gens: &GenList,
 ) -> Result<(), NoMemory>
-    requires { length gens.now ≡ length configured.now }
+    requires distinct { AreDistinct index.old }
+    requires gens { length gens.now ≡ length configured.now }
     ensures entries { OnOk result (entries.new.items ≡ entries.old.items ++ added_entries (given_of configured.now gens.now) index.old) }
     ensures index { OnOk result (index.new ≡ index.old ++ entry_ids (added_entries (given_of configured.now gens.now) index.old)) }
+    ensures distinct { OnOk result (AreDistinct index.new) }
     ensures entries_kept { OnErr result (entries.new.items ≡ entries.old.items) }
     ensures index_front { OnErr result (take (length index.old) index.new ≡ index.old) }
 {
@@ -119,9 +124,11 @@ pub fn grow(
     configured: &Configured,
     gens: &GenList,
 ) -> Result<(), NoMemory>
-    requires { length gens.now ≡ length configured.now }
+    requires distinct { AreDistinct index.old }
+    requires gens { length gens.now ≡ length configured.now }
     ensures entries { OnOk result (entries.new.items ≡ entries.old.items ++ added_entries (given_of configured.now gens.now) index.old) }
     ensures index { OnOk result (index.new ≡ index.old ++ entry_ids (added_entries (given_of configured.now gens.now) index.old)) }
+    ensures distinct { OnOk result (AreDistinct index.new) }
     ensures entries_kept { OnErr result (entries.new.items ≡ entries.old.items) }
     ensures index_kept { OnErr result (index.new ≡ index.old) }
 {

@@ -128,7 +128,7 @@ impl SavedSet {
         ensures refused { IfErr result (λ fault. put_into state self.old ≡ Err fault) }
         ensures err { OnErr result (self.new ≡ self.old) }
     {
-        let StateMsg { object, kind, .. } = state;
+        let (object, kind) = state.into_parts();
         match kind {
             StateKind::Stream { id, .. } => self.put_stream(&id, object),
             StateKind::Global { .. } => self.put_global(object),
