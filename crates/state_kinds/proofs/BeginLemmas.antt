@@ -1,11 +1,14 @@
 -- What the beginning of an attempt makes of the entries of a set.
-use Rattle.std.proofs.Common.{◌≡◌, ◌⊎◌, inl, inr, ℕ, zero, suc, List, [], ◌∷◌, ◌++◌, Option, None, Some, Bool, true, false, cond, not, ◌||◌, ◌==◌, refl, sym, ◌∙◌, ap, subst, arith, ◌<◌, ◌≤◌, ◌+◌, length, take, drop, map, filter, find, slice_get, is_some, option_map, append_assoc, append-nil, length-append}
+use Rattle.std.proofs.Common.{◌≡◌, ◌⊎◌, inl, inr, ℕ, zero, suc, List, [], ◌∷◌, ◌++◌, Option, None, Some, Bool, true, false, cond, not, ◌||◌, ◌==◌, refl, sym, ◌∙◌, ap, subst, arith, ◌<◌, ◌≤◌, ◌+◌, length, take, drop, map, filter, find, slice_get, get_or, set, is_some, option_map, append_assoc, append-nil, length-append}
 use Rattle.std.specs.List.{list_any}
 use Rattle.std.proofs.lemmas.List.{take_all, map_push}
 use Rattle.std.proofs.lemmas.List.Elements.{filter-append}
 use Rattle.std.proofs.lemmas.List.Folds.{list_any-append}
 use Rattle.std.proofs.lemmas.Option.{slice_get-map, slice_get_within}
 use Rattle.std.proofs.Math.Seq.{take-append_seam}
+use Rattle.std.proofs.Math.ListN.{length-set}
+use Rattle.std.proofs.lemmas.List.{length-map}
+use Rattle.std.proofs.lemmas.Option.{slice_get_read}
 use Rattle.json_fields.specs.Answer.{IsOnly}
 use Rattle.basics.specs.declared.stream.StreamId.{StreamId}
 use Rattle.stream_index.specs.Distinct.{AreDistinct}
@@ -18,7 +21,7 @@ use Rattle.catalog.specs.Reading.{ids_of}
 use Rattle.state_kinds.specs.declared.entry.SavedEntry.{SavedEntry}
 use Rattle.state_kinds.specs.Saved.{Saved, IsIndexOf, IsKept, IsSaved, entry_ids, entry_of, has_states, has_stream}
 use Rattle.state_kinds.specs.Changes.{Given, added, begun, generation_of, given_of, is_changed, is_of, new_entry, renewed, renewed_to}
-use Rattle.state_kinds.proofs.FindLemmas.{None-is_Some, one_value, by_cases, find_first, find_no, taken, taken_place, absent_append, present_append}
+use Rattle.state_kinds.proofs.FindLemmas.{None-is_Some, one_value, by_cases, find_first, find_no, taken, taken_place, absent_append, present_append, map_step}
 
 -- ---- entries by their streams
 
@@ -257,3 +260,34 @@ begun_kept given set index now_index by_stream now_by_stream next global was dis
 pub record HasRenewed (given : Given) (i : ℕ) (old now : List SavedEntry) : Type 0 where
   pub is : now ≡ map (renewed given) (take i old) ++ drop i old
   pub many : length now ≡ length old
+
+pub renewed_first : (given : Given) (old : List SavedEntry) → HasRenewed given 0 old old
+renewed_first given old = record { is = refl; many = refl }
+
+pub renewed_more : (given : Given) (i : ℕ) (old now next : List SavedEntry) (read item : SavedEntry) (generation : Option ℕ) → i < length old → read ≡ get_or now i read → item ≡ get_or now i item → generation ≡ generation_of given read.id → next ≡ set now i (renewed_to item generation) → HasRenewed given i old now → HasRenewed given (i + 1) old next
+renewed_more given i old now next read item generation lt reads same is changed h =
+    let here : SavedEntry = get_or now i item in
+    let within : i < length now = let m = h.many in omega arith in
+    let read_is : read ≡ here = reads ∙ get_or_any now i read item within in
+    let value : renewed_to item generation ≡ renewed given here =
+        ap (λ (e : SavedEntry). renewed_to e generation) same ∙ ap (λ (g : Option ℕ). renewed_to here g) (is ∙ ap (λ (e : SavedEntry). generation_of given e.id) read_is) in
+    let set_is : next ≡ set now i (renewed given here) = changed ∙ ap (λ (e : SavedEntry). set now i e) value in
+    record {
+      is = map_step (renewed given) old now next i item lt h.is set_is;
+      many = ap length changed ∙ (length-set {A = SavedEntry} now i (renewed_to item generation) ∙ h.many);
+    }
+  where
+    get_or_any : (xs : List SavedEntry) (i : ℕ) (a b : SavedEntry) → i < length xs → get_or xs i a ≡ get_or xs i b
+    get_or_any [] i a b lt = absurd (omega arith)
+    get_or_any (x ∷ xs) zero a b lt = refl
+    get_or_any (x ∷ xs) (suc i) a b lt = get_or_any xs i a b (omega arith)
+
+pub renewed_all : (given : Given) (i count : ℕ) (old now : List SavedEntry) → count ≤ i → i ≤ count → HasRenewed given i old now → now ≡ map (renewed given) (take count old) ++ drop count old
+renewed_all given i count old now done within h = h.is ∙ ap (λ (k : ℕ). map (renewed given) (take k old) ++ drop k old) (let e : i ≡ count = omega arith in e)
+
+-- the entry at the place that the index has
+pub entry_read : (entries : List SavedEntry) (index : List StreamId) (place : ℕ) (id : StreamId) (entry : SavedEntry) → index ≡ entry_ids entries → slice_get index place ≡ Some id → entry ≡ get_or entries place entry → slice_get entries place ≡ Some entry
+entry_read entries index place id entry ids at is =
+    let lt : place < length (entry_ids entries) = slice_get_within (entry_ids entries) place id (ap (λ (i : List StreamId). slice_get i place) (sym ids) ∙ at) in
+    let size : length (entry_ids entries) ≡ length entries = length-map entries (λ (e : SavedEntry). e.id) in
+    slice_get_read entries (length entries) place entry refl (omega arith) is

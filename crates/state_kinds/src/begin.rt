@@ -1,5 +1,5 @@
 // What the beginning of an attempt does to the entries of a set.
-ghost use Rattle.std.specs.Prelude.{◌≡◌, ◌≤◌, ◌++◌, length, map, take, drop, is_some, OnErr, OnOk, IfOk};
+ghost use Rattle.std.specs.Prelude.{◌≡◌, ◌≤◌, ◌++◌, length, map, take, drop, is_some, None, OnErr, OnOk, IfOk, if◌then◌else◌};
 ghost use Rattle.std.specs.List.{list_any};
 ghost use Rattle.std.specs.Option.{option_copied};
 ghost use Rattle.stream_index.specs.Distinct.{AreDistinct};
@@ -7,6 +7,7 @@ ghost use Rattle.state_kinds.specs.Saved.{IsIndexOf, entry_ids, entry_of, has_st
 ghost use Rattle.state_kinds.specs.Changes.{added as added_entries, generation_of, given_of, is_changed as is_pair_changed, is_of, renewed, renewed_to};
 
 use crate::SavedEntry;
+use airbyte_message::StateObject;
 use basics::{Copies, NoMemory, StreamId};
 use catalog::{Configured, GenList};
 use std::alloc::Global;
@@ -187,4 +188,13 @@ pub fn has_states(entries: &[SavedEntry]) -> bool
     ensures { result ≡ some_has_state entries.now }
 {
     entries.iter().any(|entry| entry.state.is_some())
+}
+
+/// Drops a state where this is asked.
+pub fn drop_if(is_dropped: bool, held: &mut Option<StateObject>)
+    ensures { held.new ≡ (if is_dropped then None else held.old) }
+{
+    if is_dropped {
+        *held = None;
+    }
 }

@@ -1,6 +1,6 @@
 // A set of saved states.
 use crate::SavedEntry;
-use crate::begin::{entry_in, grow, has_states, is_changed, renew};
+use crate::begin::{drop_if, entry_in, grow, has_states, is_changed, renew};
 use airbyte_message::{StateKind, StateMsg, StateObject};
 use basics::{NoMemory, StreamId};
 use catalog::{Configured, GenList};
@@ -82,9 +82,7 @@ impl SavedSet {
         let is_changed = is_changed(&self.entries, &self.index, configured, gens);
         grow(alloc, &mut self.entries, &mut self.index, configured, gens)?;
         renew(&mut self.entries, count, configured, gens);
-        if is_changed {
-            self.global = None;
-        }
+        drop_if(is_changed, &mut self.global);
         self.is_by_stream = has_states(&self.entries);
         Ok(())
     }

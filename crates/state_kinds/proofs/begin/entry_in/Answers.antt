@@ -1,18 +1,11 @@
-use Rattle.std.proofs.Common.{rules, ◌≡◌, ◌≤◌, ◌++◌, length, map, take, drop, is_some, OnErr, OnOk, IfOk, ℕ, ◌+◌, ◌-◌, ◌*◌, ◌<◌, ◌/◌, ◌%◌, Bool, true, false, nat_eq, nat_lt, List, [], ◌∷◌, slice_index_or, slice_set, bit_and, bit_or, Fits, w8, w32, w64, Bor, MutBor}
-use Rattle.std.specs.List.{list_any}
-use Rattle.std.specs.Option.{option_copied}
-use Rattle.state_kinds.specs.Saved.{IsIndexOf, entry_ids, entry_of}
-use Rattle.state_kinds.specs.Saved.{has_states as some_has_state}
-use Rattle.state_kinds.specs.Changes.{added as added_entries}
-use Rattle.state_kinds.specs.Changes.{generation_of, given_of}
-use Rattle.state_kinds.specs.Changes.{is_changed as is_pair_changed}
-use Rattle.state_kinds.specs.Changes.{is_of, renewed, renewed_to}
+use Rattle.std.proofs.Common.{sym}
+use Rattle.state_kinds.proofs.BeginLemmas.{entry_absent, entry_found, entry_read}
 use Rattle.state_kinds.proofs.begin.entry_in.Goals as goal
 
--- src/begin.rt:15:1
 pub returns-in-Some : goal.returns-in-Some
-returns-in-Some c = ?
+returns-in-Some c =
+    let here = entry_read c.args.entries.now c.args.index.now c.in-Some.place c.args.id.now c.index-entries-place.result c.requires.ids c.in-Some.ensures.found c.index-entries-place.is in
+    sym (entry_found c.args.entries.now c.args.index.now c.in-Some.place c.args.id.now c.index-entries-place.result c.requires c.in-Some.ensures.found here)
 
--- src/begin.rt:15:1
 pub returns-in-None : goal.returns-in-None
-returns-in-None c = ?
+returns-in-None c = sym (entry_absent c.args.entries.now c.args.index.now c.args.id.now c.requires c.in-None.ensures.none)

@@ -1,22 +1,16 @@
-use Rattle.std.proofs.Common.{rules, ◌≡◌, ◌≤◌, ◌++◌, length, map, take, drop, is_some, OnErr, OnOk, IfOk, ℕ, ◌+◌, ◌-◌, ◌*◌, ◌<◌, ◌/◌, ◌%◌, Bool, true, false, nat_eq, nat_lt, List, [], ◌∷◌, slice_index_or, slice_set, bit_and, bit_or, Fits, w8, w32, w64, Bor, MutBor}
-use Rattle.std.specs.List.{list_any}
-use Rattle.std.specs.Option.{option_copied}
-use Rattle.state_kinds.specs.Saved.{IsIndexOf, entry_ids, entry_of}
-use Rattle.state_kinds.specs.Saved.{has_states as some_has_state}
-use Rattle.state_kinds.specs.Changes.{added as added_entries}
-use Rattle.state_kinds.specs.Changes.{generation_of, given_of}
-use Rattle.state_kinds.specs.Changes.{is_changed as is_pair_changed}
-use Rattle.state_kinds.specs.Changes.{is_of, renewed, renewed_to}
+use Rattle.std.proofs.Common.{◌<◌, length, arith, ap, set}
+use Rattle.state_kinds.specs.declared.entry.SavedEntry.{SavedEntry}
+use Rattle.state_kinds.specs.Changes.{given_of}
+use Rattle.state_kinds.proofs.BeginLemmas.{renewed_all, renewed_first, renewed_more}
 use Rattle.state_kinds.proofs.begin.renew.Goals as goal
 
--- src/begin.rt:172:5
 pub loop-i-init : goal.loop-i-init
-loop-i-init c = ?
+loop-i-init c = renewed_first (given_of c.args.configured.now c.args.gens.now) c.args.entries.now.items
 
--- src/begin.rt:172:5
 pub loop-i-preserved : goal.loop-i-preserved
-loop-i-preserved c = ?
+loop-i-preserved c =
+    let lt : c.loop-i.i < length c.args.entries.now.items = let h = c.loop-i-test.true in let e = c.requires.count in omega arith in
+    renewed_more (given_of c.args.configured.now c.args.gens.now) c.loop-i.i c.args.entries.now.items c.loop-i.entries.items _ c.index.result.now c.index_mut.result.now c.given_generation-given.result lt c.index.ensures c.index_mut.ensures.value c.given_generation-given.ensures (ap (λ (e : SavedEntry). set c.loop-i.entries.items c.loop-i.i e) c.renew_entry.ensures) c.loop-i.invariant
 
--- src/begin.rt:162:1
 pub returns : goal.returns
-returns c = ?
+returns c = renewed_all (given_of c.args.configured.now c.args.gens.now) c.loop-i.i c.args.count c.args.entries.now.items c.loop-i.entries.items c.loop-i-test.false c.loop-i.auto.i-end c.loop-i.invariant
