@@ -161,14 +161,22 @@ added_more streams gens n old index now_index entries now stream gen id at gen_a
       distinct = subst (λ (ids : List StreamId). AreDistinct ids) (sym grew) (distinct_more index id h.distinct none);
     }
 
-pub added_skip : (streams : List ConfStream) (gens : List Gen) (n : ℕ) (old index now_index : List StreamId) (entries : List SavedEntry) (stream : ConfStream) (gen : Gen) (id : StreamId) → AreDistinct (ids_of streams) → slice_get streams n ≡ Some stream → slice_get gens n ≡ Some gen → id ≡ stream.id → (((p : ℕ) → ¬ (slice_get index p ≡ Some id)) → ⊥) → now_index ≡ index → HasAdded (given_of streams gens) n old index entries → HasAdded (given_of streams gens) (n + 1) old now_index entries
-added_skip streams gens n old index now_index entries stream gen id distinct at gen_at same there kept h =
+-- each stream has its generation
+gen_at : (gens : List Gen) (n : ℕ) → n < length gens → (gen : Gen) × (slice_get gens n ≡ Some gen)
+gen_at [] n lt = absurd (omega arith)
+gen_at (g ∷ gens) zero lt = (g, refl)
+gen_at (g ∷ gens) (suc n) lt = gen_at gens n (omega arith)
+
+pub added_skip : (streams : List ConfStream) (gens : List Gen) (n : ℕ) (old index now_index : List StreamId) (entries : List SavedEntry) (stream : ConfStream) (id : StreamId) → AreDistinct (ids_of streams) → length gens ≡ length streams → slice_get streams n ≡ Some stream → id ≡ stream.id → (((p : ℕ) → ¬ (slice_get index p ≡ Some id)) → ⊥) → now_index ≡ index → HasAdded (given_of streams gens) n old index entries → HasAdded (given_of streams gens) (n + 1) old now_index entries
+added_skip streams gens n old index now_index entries stream id distinct many at same there kept h =
     let given = given_of streams gens in
-    let pair : StreamId × ℕ = (stream.id, gen.generation) in
+    let within : n < length streams = slice_get_within streams n stream at in
+    let g = gen_at gens n (omega arith) in
+    let pair : StreamId × ℕ = (stream.id, g.0.generation) in
     let place : slice_get (ids_of streams) n ≡ Some stream.id = slice_get-map (λ (s : ConfStream). s.id) streams n ∙ ap (λ (o : Option ConfStream). option_map (λ (s : ConfStream). s.id) o) at in
     let known : has_stream old stream.id ≡ true = same_present old stream.id (λ none. there (subst (λ (i : StreamId). (p : ℕ) → ¬ (slice_get index p ≡ Some i)) (sym same) (earlier_absent streams gens n old index entries stream distinct place h none))) in
     record {
-      entries = h.entries ∙ (sym (added_not (take n given) old pair known) ∙ ap (λ (ps : Given). added ps old) (sym (taken given n pair (given_at streams gens n stream gen at gen_at))));
+      entries = h.entries ∙ (sym (added_not (take n given) old pair known) ∙ ap (λ (ps : Given). added ps old) (sym (taken given n pair (given_at streams gens n stream g.0 at g.1))));
       index = kept ∙ h.index;
       distinct = subst (λ (ids : List StreamId). AreDistinct ids) (sym kept) h.distinct;
     }
@@ -291,3 +299,7 @@ entry_read entries index place id entry ids at is =
     let lt : place < length (entry_ids entries) = slice_get_within (entry_ids entries) place id (ap (λ (i : List StreamId). slice_get i place) (sym ids) ∙ at) in
     let size : length (entry_ids entries) ≡ length entries = length-map entries (λ (e : SavedEntry). e.id) in
     slice_get_read entries (length entries) place entry refl (omega arith) is
+
+pub begun_global : (given : Given) (set_is : Saved) (entries : List SavedEntry) (b : Bool) (global : Option (List ℕ)) → entries ≡ set_is.entries → b ≡ list_any (is_changed entries) given → global ≡ cond b None set_is.global → global ≡ cond (list_any (is_changed set_is.entries) given) None set_is.global
+begun_global given set_is entries b global same tested is =
+    is ∙ ap (λ (c : Bool). cond c None set_is.global) (tested ∙ ap (λ (es : List SavedEntry). list_any (is_changed es) given) same)

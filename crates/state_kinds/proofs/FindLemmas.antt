@@ -1,5 +1,6 @@
 -- What a search finds where one element passes, or none; lists of which one element is changed.
 use Rattle.std.proofs.Common.{◌≡◌, ◌⊎◌, inl, inr, ℕ, zero, suc, List, [], ◌∷◌, ◌++◌, Option, None, Some, Bool, true, false, cond, refl, sym, ◌∙◌, ap, subst, arith, ◌<◌, ◌≤◌, ◌+◌, length, take, drop, set, map, filter, find, slice_get, get_or, slice_index_or, append_assoc, add-one, drop-cons}
+use Rattle.std.specs.Prelude.{Result, Ok, Err, OnErr}
 use Rattle.std.proofs.lemmas.Option.{get_or_from_slice_get, slice_get_within}
 use Rattle.std.proofs.lemmas.List.{take_more, map_push, set_at, get_or_at, length-take-le, length-map}
 
@@ -15,6 +16,10 @@ one_value a b e = cc
 pub by_cases : {P : Type 0} (b : Bool) → (b ≡ true → P) → (b ≡ false → P) → P
 by_cases true passed failed = passed refl
 by_cases false passed failed = failed refl
+
+pub on_err : {T E : Type 0} (r : Result T E) (P : Type 0) → P → OnErr r P
+on_err (Ok value) P p = tt
+on_err (Err found) P p = p
 
 -- the one element that passes is found
 pub find_first : {A : Type 0} (t : A → Bool) (xs : List A) (i : ℕ) (x : A) → slice_get xs i ≡ Some x → t x ≡ true → ((j : ℕ) (y : A) → slice_get xs j ≡ Some y → t y ≡ true → j ≡ i) → find t xs ≡ Some x

@@ -1,5 +1,5 @@
 -- The text of the state store, and the array of states that a source is started with.
-use Rattle.std.specs.Prelude.{ℕ, List, [], ◌∷◌, map, Option, None, Some, option_map, codes, decimal}
+use Rattle.std.specs.Prelude.{◌≡◌, ℕ, List, [], ◌∷◌, ◌++◌, map, Option, None, Some, Bool, false, option_map, codes, decimal, if◌then◌else◌}
 use Rattle.std.specs.List.{filter_map}
 use Rattle.json.specs.Print.{quoted}
 use Rattle.json_write.specs.Objects.{Part, named, optional, object_text, list_text}
@@ -33,3 +33,8 @@ listed_beside entries ids None = filter_map (state_of entries) ids
 
 abbrev pub states_text : Saved → List StreamId → List ℕ
 states_text set ids = list_text (listed_beside set.entries ids set.global)
+
+-- For private clauses: an element, where there is one, was put behind others, and whether the next is the first is known.
+abbrev pub AddsItem : Bool → Option (List ℕ) → List ℕ → Bool → List ℕ → Type 0
+AddsItem is_first None old first now = (first ≡ is_first) × (now ≡ old)
+AddsItem is_first (Some item) old first now = (first ≡ false) × (now ≡ (old ++ (if is_first then [] else 44 ∷ [])) ++ item)

@@ -9,4 +9,4 @@ mod write;
 
 pub use entry::SavedEntry;
 pub use set::SavedSet;
-pub use write::write_store;
+pub use write::{write_list, write_store};

@@ -33,7 +33,7 @@ impl Model for SavedSet {
 impl SavedSet {
     ghost use Rattle.std.specs.Prelude.{◌≡◌, length, IfErr, OnErr, OnOk};
     ghost use Rattle.std.specs.Option.{option_copied};
-    ghost use Rattle.state_kinds.specs.Saved.{IsSaved, entry_of, nothing_saved};
+    ghost use Rattle.state_kinds.specs.Saved.{IsSaved, entry_of, nothing_saved, state_of};
     ghost use Rattle.state_kinds.specs.Changes.{begun, given_of, put_global as put_for_all, put_into, put_stream as put_for_stream};
 
     /// The empty set.
@@ -68,6 +68,16 @@ impl SavedSet {
         ensures { option_copied result ≡ entry_of self.now.entries id.now }
     {
         entry_in(&self.entries, &self.index, id)
+    }
+
+    /// The state of a stream, in constant time.
+    pub fn state(&self, id: &StreamId) -> Option<&StateObject>
+        ensures { option_copied result ≡ state_of self.now.entries id.now }
+    {
+        match self.entry(id) {
+            Some(entry) => entry.state.as_ref(),
+            None => None,
+        }
     }
 
     /// An attempt begins: each configured stream gets its generation, one for each in the catalog's order. Where that differs

@@ -1,42 +1,32 @@
-use Rattle.std.proofs.Common.{rules, ◌≡◌, ◌≤◌, ◌++◌, length, map, take, drop, is_some, OnErr, OnOk, IfOk, ℕ, ◌+◌, ◌-◌, ◌*◌, ◌<◌, ◌/◌, ◌%◌, Bool, true, false, nat_eq, nat_lt, List, [], ◌∷◌, slice_index_or, slice_set, bit_and, bit_or, Fits, w8, w32, w64, Bor, MutBor}
-use Rattle.std.specs.List.{list_any}
-use Rattle.std.specs.Option.{option_copied}
-use Rattle.state_kinds.specs.Saved.{IsIndexOf, entry_ids, entry_of}
-use Rattle.state_kinds.specs.Saved.{has_states as some_has_state}
-use Rattle.state_kinds.specs.Changes.{added as added_entries}
-use Rattle.state_kinds.specs.Changes.{generation_of, given_of}
-use Rattle.state_kinds.specs.Changes.{is_changed as is_pair_changed}
-use Rattle.state_kinds.specs.Changes.{is_of, renewed, renewed_to}
+use Rattle.std.proofs.Common.{Vec, Global, ◌≡◌, ◌≤◌, ◌∷◌, ◌++◌, [], List, length, sym, ap, subst, ◌+◌, ◌∙◌, arith}
+use Rattle.json_fields.proofs.AnswerLemmas.{true_false}
+use Rattle.state_kinds.specs.declared.entry.SavedEntry.{SavedEntry}
+use Rattle.state_kinds.specs.Changes.{given_of}
+use Rattle.state_kinds.proofs.FindLemmas.{on_err}
+use Rattle.state_kinds.proofs.BeginLemmas.{added_all, added_more, HasAdded, added_skip, front_more}
 use Rattle.state_kinds.proofs.begin.added.Goals as goal
+use Rattle.state_kinds.proofs.begin.added.Goals.{then-branch+in_ok-new_entry+in_ok-push, else-branch}
 
--- src/begin.rt:84:5
-pub loop-n-init : goal.loop-n-init
-loop-n-init c = ?
-
--- src/begin.rt:86:22
-pub returns-in_err-copy-clause-err : goal.returns-in_err-copy-clause-err
-returns-in_err-copy-clause-err c = ?
-
--- src/begin.rt:86:12
-pub returns-in_err-add-clause-err : goal.returns-in_err-add-clause-err
-returns-in_err-add-clause-err c = ?
-
--- src/begin.rt:87:24
-pub returns-in_err-new_entry-clause-err : goal.returns-in_err-new_entry-clause-err
-returns-in_err-new_entry-clause-err c = ?
-
--- src/begin.rt:87:13
 pub returns-in_err-push-clause-err : goal.returns-in_err-push-clause-err
-returns-in_err-push-clause-err c = ?
+returns-in_err-push-clause-err c =
+    on_err c.from_residual-in_err-push.result _ (front_more (given_of c.args.configured.now c.args.gens.now) c.loop-n.n c.args.index.now c.loop-n.index c.add.new.self c.loop-n.added.items c.in_ok-copy.field-0 (c.in_ok-add.ensures.added c.if-branch.true) c.loop-n.invariant)
 
--- src/begin.rt:84:5
 pub loop-n-preserved : goal.loop-n-preserved
-loop-n-preserved c = ?
+loop-n-preserved c =
+    let streams = c.args.configured.now in
+    let gens = c.args.gens.now in
+    elim c.if-branch.branch [
+      | then-branch+in_ok-new_entry+in_ok-push w ↦
+          added_more streams gens c.loop-n.n c.args.index.now c.loop-n.index c.add.new.self c.loop-n.added.items c.if-branch.added.items c.stream.result.now w.at.result.now c.in_ok-copy.field-0 c.stream.ensures.stream w.at.ensures c.in_ok-copy.ensures.copied
+          (c.in_ok-add.ensures.new.0 w.if-branch.true) (c.in_ok-add.ensures.added w.if-branch.true)
+          (ap (λ (v : Vec SavedEntry Global). v.items) w.added-is ∙ (w.in_ok-push.ensures.items ∙ ap (λ (e : SavedEntry). c.loop-n.added.items ++ e ∷ []) w.in_ok-new_entry.ensures)) c.loop-n.invariant
+      | else-branch w ↦
+          subst (λ (es : List SavedEntry). HasAdded (given_of streams gens) (c.loop-n.n + 1) c.args.index.now c.add.new.self es) (sym (ap (λ (v : Vec SavedEntry Global). v.items) w.added-is))
+          (added_skip streams gens c.loop-n.n c.args.index.now c.loop-n.index c.add.new.self c.loop-n.added.items c.stream.result.now c.in_ok-copy.field-0 c.len-n-end.ensures.configured.distinct c.requires.gens c.stream.ensures.stream c.in_ok-copy.ensures.copied
+          (λ none. true_false (sym (c.in_ok-add.ensures.new.1 none) ∙ w.if-branch.false)) (c.in_ok-add.ensures.there (λ is. true_false (sym is ∙ w.if-branch.false))) c.loop-n.invariant)
+    ]
 
--- src/begin.rt:72:1
 pub returns-clause-added : goal.returns-clause-added
-returns-clause-added c = ?
-
--- src/begin.rt:72:1
-pub returns-clause-index : goal.returns-clause-index
-returns-clause-index c = ?
+returns-clause-added c =
+    let done : length c.args.configured.now ≤ c.loop-n.n = let h = c.loop-n-test.false in let e = c.len-n-end.ensures.len in omega arith in
+    added_all c.args.configured.now c.args.gens.now c.loop-n.n c.args.index.now c.loop-n.index c.loop-n.added.items c.requires.gens done c.loop-n.invariant

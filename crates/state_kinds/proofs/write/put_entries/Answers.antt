@@ -26,4 +26,4 @@ pub returns : goal.returns
 returns c =
     let entries = c.args.entries.now in
     let whole = c.loop-i.invariant ∙ ap (λ (es : List SavedEntry). c.args.text.now ++ open_list (map entry_text es)) (take_all c.loop-i.i entries c.loop-i-test.false) in
-    λ ok. list_closes c.args.text.now c.loop-i.text c.push-2.new.self (map entry_text entries) whole (c.push-2.ensures.ok ok)
+    list_closes c.args.text.now c.loop-i.text c.push-2.new.self (map entry_text entries) whole c.in_ok-push-2.ensures.ok

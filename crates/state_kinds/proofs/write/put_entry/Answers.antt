@@ -1,10 +1,11 @@
-use Rattle.std.proofs.Common.{rules, ◌≡◌, [], ◌∷◌, ◌++◌, IfOk, OnOk, map, ℕ, ◌+◌, ◌-◌, ◌*◌, ◌<◌, ◌≤◌, length, ◌/◌, ◌%◌, Bool, true, false, nat_eq, nat_lt, List, slice_index_or, slice_set, bit_and, bit_or, Fits, w8, w32, w64, Bor, MutBor}
-use Rattle.json_write.specs.Objects.{list_text, named, object_text, open_list, part_before}
-use Rattle.catalog.specs.Reading.{ids_of}
-use Rattle.state_kinds.specs.Saved.{state_of}
-use Rattle.state_kinds.specs.Texts.{entry_parts, held_text, states_text, store_text}
+use Rattle.std.proofs.Common.{[], ◌∷◌, codes, decimal, option_map, ap, ◌∙◌, sym}
+use Rattle.json.specs.Print.{quoted}
+use Rattle.json_write.specs.Objects.{Part, named, optional}
+use Rattle.json_write.proofs.Texts.{closes, grows}
+use Rattle.state_kinds.specs.Texts.{held_text}
+use Rattle.state_kinds.proofs.StoreTextLemmas.{entry_closes}
 use Rattle.state_kinds.proofs.write.put_entry.Goals as goal
 
--- src/write.rt:28:1
 pub returns : goal.returns
-returns c = ?
+returns c =
+    entry_closes c.args.entry.now c.as_str.result.now c.args.text.now c.put_string_member.new.text c.put_optional_string.new.text c.put_number_member.new.text c.put_held.new.text c.push.new.self c.as_str.ensures c.in_ok-put_string_member.ensures.ok c.in_ok-put_optional_string.ensures.ok c.in_ok-put_number_member.ensures.ok c.in_ok-put_held.ensures c.in_ok-push.ensures.ok
