@@ -20,9 +20,9 @@ entry_closes entry name old named_text spaced counted held closed same e1 e2 e3 
     closes old held closed first ((space ++ generation ∷ []) ++ state ∷ []) three e5
     ∙ ap (λ (parts : List Part). old ++ object_text (first ∷ parts)) (append_assoc space (generation ∷ []) (state ∷ []) ∙ optional-append (codes "namespace") (option_map quoted entry.id.namespace) [] (generation ∷ state ∷ []))
 
-pub store_closes : (set_is : Saved) (entries version keyed_text listed held closed : List ℕ) → entries ≡ list_text (map (λ (entry : SavedEntry). object_text (entry_parts entry)) set_is.entries) → version ≡ 123 ∷ part_before (named (codes "version") (codes "1")) [] → keyed_text ≡ version ++ 44 ∷ (quoted (codes "streams") ++ 58 ∷ []) → listed ≡ keyed_text ++ entries → held ≡ listed ++ 44 ∷ part_before (named (codes "global") (held_text set_is.global)) [] → closed ≡ held ++ 125 ∷ [] → closed ≡ store_text set_is
+pub store_closes : (set_is : Saved) (entries version keyed_text listed held closed : List ℕ) → entries ≡ list_text (map (λ (entry : SavedEntry). object_text (entry_parts entry)) set_is.entries) → version ≡ 123 ∷ part_before (named (codes "version") (decimal 1)) [] → keyed_text ≡ version ++ 44 ∷ (quoted (codes "streams") ++ 58 ∷ []) → listed ≡ keyed_text ++ entries → held ≡ listed ++ 44 ∷ part_before (named (codes "global") (held_text set_is.global)) [] → closed ≡ held ++ 125 ∷ [] → closed ≡ store_text set_is
 store_closes set_is entries version keyed_text listed held closed all e1 e2 e3 e4 e5 =
-    let first : Part = named (codes "version") (codes "1") in
+    let first : Part = named (codes "version") (decimal 1) in
     let streams : Part = named (codes "streams") entries in
     let global : Part = named (codes "global") (held_text set_is.global) in
     let member = keyed 44 version keyed_text listed (codes "streams") entries e2 e3 in

@@ -21,7 +21,7 @@ entry_parts entry =
 -- the store's text
 abbrev pub store_text : Saved → List ℕ
 store_text set = object_text (
-    named (codes "version") (codes "1")
+    named (codes "version") (decimal 1)
     ∷ named (codes "streams") (list_text (map (λ entry. object_text (entry_parts entry)) set.entries))
     ∷ named (codes "global") (held_text set.global)
     ∷ [])
