@@ -4,9 +4,15 @@
 
 mod begin;
 mod entry;
+mod form;
+mod read;
 mod set;
+mod states;
+mod stored;
 mod write;
 
 pub use entry::SavedEntry;
+pub use read::read_store;
 pub use set::SavedSet;
+pub use states::{StateList, read_list};
 pub use write::{write_list, write_store};

@@ -1,6 +1,6 @@
 // A set of saved states.
 use crate::SavedEntry;
-use crate::begin::{drop_if, entry_in, grow, has_states, is_changed, renew};
+use crate::begin::{drop_if, entry_in, grow, has_states as some_have_states, is_changed, renew};
 use airbyte_message::{StateKind, StateMsg, StateObject};
 use basics::{NoMemory, StreamId};
 use catalog::{Configured, GenList};
@@ -31,9 +31,9 @@ impl Model for SavedSet {
 }
 
 impl SavedSet {
-    ghost use Rattle.std.specs.Prelude.{◌≡◌, length, IfErr, OnErr, OnOk};
+    ghost use Rattle.std.specs.Prelude.{◌≡◌, length, is_some, true, false, IfErr, OnErr, OnOk};
     ghost use Rattle.std.specs.Option.{option_copied};
-    ghost use Rattle.state_kinds.specs.Saved.{IsSaved, entry_of, nothing_saved, state_of};
+    ghost use Rattle.state_kinds.specs.Saved.{IsIndexOf, IsSaved, entry_of, has_states, nothing_saved, state_of};
     ghost use Rattle.state_kinds.specs.Changes.{begun, given_of, put_global as put_for_all, put_into, put_stream as put_for_stream};
 
     /// The empty set.
@@ -45,6 +45,25 @@ impl SavedSet {
             index: StreamIndex::new(alloc),
             is_by_stream: false,
             global: None,
+        }
+    }
+
+    // The set of entries whose streams the index has, and of a state of all streams where no stream has one.
+    pub(crate) fn of(
+        entries: Vec<SavedEntry>,
+        index: StreamIndex,
+        global: Option<StateObject>,
+    ) -> Self
+        requires index { IsIndexOf entries.items index }
+        requires one_kind { is_some global ≡ true → has_states entries.items ≡ false }
+        ensures { result ≡ record { entries = entries.items; global = global } }
+    {
+        let is_by_stream = some_have_states(&entries);
+        SavedSet {
+            entries,
+            index,
+            is_by_stream,
+            global,
         }
     }
 
@@ -93,7 +112,7 @@ impl SavedSet {
         grow(alloc, &mut self.entries, &mut self.index, configured, gens)?;
         renew(&mut self.entries, count, configured, gens);
         drop_if(is_changed, &mut self.global);
-        self.is_by_stream = has_states(&self.entries);
+        self.is_by_stream = some_have_states(&self.entries);
         Ok(())
     }
 
