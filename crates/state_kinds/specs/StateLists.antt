@@ -1,6 +1,6 @@
 -- What an array of states reads as: its states in order, or the first fault of the text. Its elements may be laid out over
 -- several lines; a state stands on one.
-use Rattle.std.specs.Prelude.{◌≡◌, ◌⊎◌, ℕ, List, [], ◌∷◌, Option, None, Some, Result, Ok, Err, Bool, true, false, ◌&&◌, ◌||◌, ◌==◌, nat_lt, length, filter, codes, if◌then◌else◌}
+use Rattle.std.specs.Prelude.{◌≡◌, ◌⊎◌, ℕ, List, [], ◌∷◌, Option, None, Some, Result, Ok, Err, Bool, true, false, ◌&&◌, ◌||◌, ◌==◌, nat_lt, count_by, if◌then◌else◌}
 use Rattle.std.specs.List.{AllZip, filter_map, list_any}
 use Rattle.json_span.specs.Members.{text_at}
 use Rattle.json_span.specs.Elements.{AreElements}
@@ -38,7 +38,7 @@ stream_of _ = None
 -- two states of one stream, or two of all streams
 abbrev pub repeats_lane : List State → Bool
 repeats_lane states =
-    repeats_stream (filter_map (λ state. stream_of state.kind) states) || nat_lt 1 (length (filter (λ state. is_global_kind state.kind) states))
+    repeats_stream (filter_map (λ state. stream_of state.kind) states) || nat_lt 1 (count_by (λ state. is_global_kind state.kind) states)
 
 -- the fault of an array's states, the first check that fails
 abbrev pub list_fault : List State → Option StateFault

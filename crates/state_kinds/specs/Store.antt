@@ -1,5 +1,5 @@
 -- What a text of the state store reads as: a set, or the first fault of the text.
-use Rattle.std.specs.Prelude.{◌≡◌, ◌⊎◌, ℕ, List, [], ◌∷◌, map, Option, None, Some, Result, Ok, Err, Bool, true, false, not, ◌&&◌, ◌||◌, nat_lt, is_some, option_map, codes, if◌then◌else◌}
+use Rattle.std.specs.Prelude.{◌≡◌, ◌⊎◌, ℕ, List, [], ◌∷◌, ◌++◌, map, Option, None, Some, Result, Ok, Err, Bool, true, false, not, ◌&&◌, ◌||◌, nat_lt, is_some, option_map, codes, if◌then◌else◌}
 use Rattle.std.specs.List.{AllZip, list_any}
 use Rattle.json_span.specs.Members.{text_at}
 use Rattle.json_span.specs.Elements.{AreElements}
@@ -21,7 +21,7 @@ use Rattle.outside.specs.declared.faults.StateFault.TheVariants as fault
 use Rattle.state_kinds.specs.declared.entry.SavedEntry.{SavedEntry}
 use Rattle.state_kinds.specs.declared.stored.StoredEntry.{StoredEntry}
 use Rattle.state_kinds.specs.declared.stored.Stored.{Stored}
-use Rattle.state_kinds.specs.Saved.{Saved, nothing_saved}
+use Rattle.state_kinds.specs.Saved.{Saved, has_stream, nothing_saved}
 
 -- ---- the form
 
@@ -138,3 +138,8 @@ ReadsStore [] reading = reading ≡ Ok nothing_saved
 ReadsStore (byte ∷ text) reading =
     (((stored : Stored) → ¬ IsStored (byte ∷ text) stored) × (reading ≡ Err fault.NotJson))
     ⊎ ((stored : Stored) × IsStored (byte ∷ text) stored × (reading ≡ unless (store_fault stored) (set_of stored)))
+
+-- For private clauses: a stream, where there is one, was put behind others unless it is among them, and whether it was new is known.
+abbrev pub AddsOnce : List StreamId → Option StreamId → List StreamId → Bool → Type 0
+AddsOnce ids None now is_new = (is_new ≡ true) × (now ≡ ids)
+AddsOnce ids (Some id) now is_new = (is_new ≡ not (has_stream ids id)) × (now ≡ (if has_stream ids id then ids else ids ++ id ∷ []))

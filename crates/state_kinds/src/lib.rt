@@ -5,6 +5,7 @@
 mod begin;
 mod entry;
 mod form;
+mod once;
 mod read;
 mod set;
 mod states;

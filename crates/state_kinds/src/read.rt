@@ -8,10 +8,11 @@ ghost use Rattle.catalog.specs.Checks.{unless};
 ghost use Rattle.state_kinds.specs.Store.{IsIndexOfStored, ReadsStore, first_fault, is_global_kind as is_global_test, is_legacy as is_legacy_test, is_legacy_kind as is_legacy_kind_test, is_mixed as is_mixed_test, is_of_another as is_of_another_test, is_stray, is_stream_kind as is_stream_kind_test, is_too_large as is_too_large_test, passes, saved_entry as saved_of, set_of as set_of_stored, store_fault, stored_ids};
 
 use crate::form::stored_of;
+use crate::once::add_once;
 use crate::stored::{Stored, StoredEntry};
 use crate::{SavedEntry, SavedSet};
 use airbyte_message::{StateKind, StateMsg, StateObject};
-use basics::{Copies, GREATEST_GENERATION, NoMemory, Sequence, StreamId};
+use basics::{GREATEST_GENERATION, NoMemory, Sequence, StreamId};
 use outside::StateFault;
 use std::alloc::Global;
 use stream_index::StreamIndex;
@@ -142,7 +143,7 @@ fn index_of(alloc: Global, entries: &[StoredEntry]) -> Result<Option<StreamIndex
 {
     let mut index = StreamIndex::new(alloc);
     for entry in entries {
-        if !index.add(entry.id.copy(alloc)?)? {
+        if !add_once(alloc, &mut index, Some(&entry.id))? {
             return Ok(None);
         }
     }

@@ -1,15 +1,17 @@
 // Reading an array of states.
-ghost use Rattle.std.specs.Prelude.{◌≡◌, ◌≢◌, ◌||◌, Ok, Err, All, codes, filter, nat_lt, IfErr, IfOk, IsTrue, length};
-ghost use Rattle.std.specs.List.{AllZip, filter_map, list_any};
+ghost use Rattle.std.specs.Prelude.{◌≡◌, ◌≢◌, ◌||◌, Ok, Err, All, count_by, IfErr, IfOk};
+ghost use Rattle.std.specs.List.{AllZip, filter_map};
+ghost use Rattle.std.specs.Option.{option_copied};
 ghost use Rattle.json_span.specs.Members.{text_at};
 ghost use Rattle.json_span.specs.Elements.{IsElementOf};
 ghost use Rattle.json_fields.specs.Answer.{IsAnswer, IsOnly};
 ghost use Rattle.airbyte_message.specs.States.{IsState};
 ghost use Rattle.state_kinds.specs.Store.{is_global_kind, is_legacy_kind, is_stream_kind, repeats_stream};
-ghost use Rattle.state_kinds.specs.StateLists.{AreStates, ReadsStates, first_list_fault, has_kind, list_fault, on_one_line, repeats_lane as repeats_lane_test, stream_of};
+ghost use Rattle.state_kinds.specs.StateLists.{AreStates, ReadsStates, first_list_fault, has_kind, list_fault, on_one_line, stream_of as stream_of_kind};
 
+use crate::once::add_once;
 use airbyte_message::{StateKind, StateMsg, state_of};
-use basics::{Copies, NoMemory, Sequence, StreamId};
+use basics::{NoMemory, Sequence, StreamId};
 use json_fields::cut_list;
 use json_span::{MAX_DEPTH, Span};
 use json_squeeze::squeeze;
@@ -78,45 +80,72 @@ fn is_stream(kind: &StateKind) -> bool
     matches!(kind, StateKind::Stream { .. })
 }
 
+// Whether one of the states is of the form before states had types.
+fn has_legacy(states: &[StateMsg]) -> bool
+    ensures { result ≡ has_kind is_legacy_kind states.now }
+{
+    states.iter().any(|state| is_legacy(state.kind()))
+}
+
+// Whether one of the states is of one stream.
+fn has_stream(states: &[StateMsg]) -> bool
+    ensures { result ≡ has_kind is_stream_kind states.now }
+{
+    states.iter().any(|state| is_stream(state.kind()))
+}
+
+// Whether one of the states is of all streams.
+fn has_global(states: &[StateMsg]) -> bool
+    ensures { result ≡ has_kind is_global_kind states.now }
+{
+    states.iter().any(|state| is_global(state.kind()))
+}
+
 // The fault of states by the checks before the last.
 fn first_fault_of(states: &[StateMsg]) -> Option<StateFault>
     ensures { result ≡ first_list_fault states.now }
 {
-    if states.iter().any(|state| is_legacy(state.kind())) {
+    if has_legacy(states) {
         return Some(StateFault::Legacy);
     }
-    if states.iter().any(|state| is_stream(state.kind()))
-        && states.iter().any(|state| is_global(state.kind()))
-    {
+    if has_stream(states) && has_global(states) {
         return Some(StateFault::Mixed);
     }
     None
 }
 
+// The stream that a state is of.
+fn stream_of(kind: &StateKind) -> Option<&StreamId>
+    ensures { option_copied result ≡ stream_of_kind kind.now }
+{
+    match kind {
+        StateKind::Stream { id, .. } => Some(id),
+        StateKind::Global { .. } => None,
+        StateKind::Legacy => None,
+    }
+}
+
 // Whether a stream has two states.
 fn repeats_stream_of(alloc: Global, states: &[StateMsg]) -> Result<bool, NoMemory>
-    ensures { IfOk result (λ is. is ≡ repeats_stream (filter_map (λ state. stream_of state.kind) states.now)) }
+    ensures { IfOk result (λ is. is ≡ repeats_stream (filter_map (λ state. stream_of_kind state.kind) states.now)) }
 {
     let mut index = StreamIndex::new(alloc);
     for state in states {
-        if let StateKind::Stream { id, .. } = state.kind() {
-            if !index.add(id.copy(alloc)?)? {
-                return Ok(true);
-            }
+        if !add_once(alloc, &mut index, stream_of(state.kind()))? {
+            return Ok(true);
         }
     }
     Ok(false)
 }
 
-// Whether there are two states of all streams.
-fn repeats_global(states: &[StateMsg]) -> bool
-    ensures { result ≡ nat_lt 1 (length (filter (λ state. is_global_kind state.kind) states.now)) }
+// How many states are of all streams.
+fn global_count(states: &[StateMsg]) -> usize
+    ensures { result ≡ count_by (λ state. is_global_kind state.kind) states.now }
 {
     states
         .iter()
         .filter(|state| is_global(state.kind()))
         .count()
-        > 1
 }
 
 /// Reads an array of states, as a source is started with one. The checks go in this order: the form, states of the form before
@@ -131,7 +160,7 @@ pub fn read_list(alloc: Global, text: &[u8]) -> Result<StateList, StateFault>
     if let Some(fault) = first_fault_of(states.as_slice()) {
         return Err(fault);
     }
-    if repeats_stream_of(alloc, states.as_slice())? || repeats_global(states.as_slice()) {
+    if repeats_stream_of(alloc, states.as_slice())? || global_count(states.as_slice()) > 1 {
         return Err(StateFault::Twice);
     }
     Ok(states)
