@@ -6,3 +6,4 @@ pub mod StoreTextLemmas
 pub mod OnceLemmas
 pub mod FormLemmas
 pub mod StateListLemmas
+pub mod ReadLemmas

@@ -9,7 +9,7 @@ use Rattle.basics.specs.declared.stream.StreamId.{StreamId}
 use Rattle.stream_index.specs.Distinct.{AreDistinct}
 use Rattle.stream_index.specs.Same.{is_same_stream}
 use Rattle.stream_index.proofs.DistinctLemmas.{distinct_more}
-use Rattle.stream_index.proofs.IndexLemmas.{Decides-stream, list_any-at, list_any-place}
+use Rattle.stream_index.proofs.IndexLemmas.{Decides-stream, list_any-at, list_any-place, same_absent, same_present}
 use Rattle.state_kinds.specs.Saved.{has_stream}
 use Rattle.state_kinds.specs.Store.{AddsOnce, repeats_stream}
 use Rattle.state_kinds.proofs.FindLemmas.{None-is_Some, by_cases, one_value, taken}
@@ -80,6 +80,18 @@ indexed_more ids index now id adds h =
 pub indexed_there : (ids index now : List StreamId) (id : StreamId) (more : List StreamId) → AddsOnce index (Some id) now false → HasIndexed ids index → repeats_stream (ids ++ id ∷ more) ≡ true
 indexed_there ids index now id more adds h =
     repeats_front ids id more (ap (λ (is : List StreamId). has_stream is id) (sym h.is) ∙ not_false (has_stream index id) adds.0)
+
+-- what `add` of an index does
+pub once_added : (index now : List StreamId) (id copy : StreamId) (b : Bool) → copy ≡ id → (b ≡ true → now ≡ index ++ copy ∷ []) → (b ≡ true → (p : ℕ) → ¬ (slice_get index p ≡ Some copy)) → (((p : ℕ) → ¬ (slice_get index p ≡ Some copy)) → b ≡ true) → ((b ≡ true → ⊥) → now ≡ index) → AddsOnce index (Some id) now b
+once_added index now id copy true same grew new back kept =
+    let absent : has_stream index id ≡ false = same_absent index id (λ p at. new refl p (at ∙ ap (λ (i : StreamId). Some i) (sym same))) in
+    (ap not (sym absent), grew refl ∙ (ap (λ (i : StreamId). index ++ i ∷ []) same ∙ ap (λ (b : Bool). cond b index (index ++ id ∷ [])) (sym absent)))
+once_added index now id copy false same grew new back kept =
+    let there : has_stream index id ≡ true = same_present index id (λ none. true_is_false (sym (back (λ p at. none p (at ∙ ap (λ (i : StreamId). Some i) same))))) in
+    (ap not (sym there), kept (λ e. true_is_false (sym e)) ∙ ap (λ (b : Bool). cond b index (index ++ id ∷ [])) (sym there))
+  where
+    true_is_false : true ≡ false → ⊥
+    true_is_false e = cc
 
 -- ---- the streams that elements have
 

@@ -16,7 +16,10 @@ pub fn add_once(
     ensures { IfOk result (λ is_new. AddsOnce index.old (option_copied id.entry) index.new is_new) }
 {
     match id {
-        Some(id) => index.add(id.copy(alloc)?),
+        Some(id) => {
+            let is_new = index.add(id.copy(alloc)?)?;
+            Ok(is_new)
+        }
         None => Ok(true),
     }
 }

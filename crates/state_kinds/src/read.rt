@@ -1,11 +1,9 @@
 // Reading a text of the state store.
-ghost use Rattle.std.specs.Prelude.{◌≡◌, ◌≢◌, ◌||◌, Ok, Err, map, is_some, nat_lt, true, IfErr, IfOk, MatchOption};
+ghost use Rattle.std.specs.Prelude.{◌≡◌, ◌≢◌, Ok, Err, None, Some, map, is_some, nat_lt, IfErr, IfOk, OnOk};
 ghost use Rattle.std.specs.List.{list_any};
 ghost use Rattle.std.specs.Option.{option_map};
 ghost use Rattle.json_fields.specs.Answer.{IsOnly};
-ghost use Rattle.stream_index.specs.Distinct.{AreDistinct};
-ghost use Rattle.catalog.specs.Checks.{unless};
-ghost use Rattle.state_kinds.specs.Store.{IsIndexOfStored, ReadsStore, first_fault, is_global_kind as is_global_test, is_legacy as is_legacy_test, is_legacy_kind as is_legacy_kind_test, is_mixed as is_mixed_test, is_of_another as is_of_another_test, is_stray, is_stream_kind as is_stream_kind_test, is_too_large as is_too_large_test, passes, saved_entry as saved_of, set_of as set_of_stored, store_fault, stored_ids};
+ghost use Rattle.state_kinds.specs.Store.{IsIndexOfStored, ReadsStore, first_fault, is_global_kind as is_global_test, is_legacy_kind as is_legacy_kind_test, is_mixed as is_mixed_test, is_of_another as is_of_another_test, is_stray, is_stream_kind as is_stream_kind_test, passes, saved_entry as saved_of, set_of as set_of_stored, store_fault, stored_ids};
 
 use crate::form::stored_of;
 use crate::once::add_once;
@@ -190,12 +188,13 @@ fn saved_entries(
     Ok(saved)
 }
 
-// The set of what a store's text holds, where no check fails.
-fn set_of(alloc: Global, stored: Stored) -> Result<SavedSet, StateFault>
-    ensures set { IfOk result (λ set. unless (store_fault stored) (set_of_stored stored) ≡ Ok set) }
-    ensures refused { IfErr result (λ fault. fault ≢ StateFault.NoMemory → unless (store_fault stored) (set_of_stored stored) ≡ Err fault) }
+// The index of the entries' streams, or the fault of a store's text.
+fn checked(alloc: Global, stored: &Stored) -> Result<StreamIndex, StateFault>
+    ensures sound { OnOk result (store_fault stored.now ≡ None) }
+    ensures index { IfOk result (λ index. IsIndexOfStored (stored_ids stored.now.entries) (Some index)) }
+    ensures refused { IfErr result (λ fault. fault ≢ StateFault.NoMemory → store_fault stored.now ≡ Some fault) }
 {
-    if let Some(fault) = first_fault_of(&stored) {
+    if let Some(fault) = first_fault_of(stored) {
         return Err(fault);
     }
     let Some(index) = index_of(alloc, stored.entries.as_slice())? else {
@@ -204,8 +203,18 @@ fn set_of(alloc: Global, stored: Stored) -> Result<SavedSet, StateFault>
     if has_stray(stored.entries.as_slice()) {
         return Err(StateFault::Twice);
     }
+    Ok(index)
+}
+
+// The set of what a store's text holds, where no check fails.
+fn set_of(alloc: Global, stored: Stored, index: StreamIndex) -> Result<SavedSet, NoMemory>
+    requires sound { store_fault stored ≡ None }
+    requires index { IsIndexOfStored (stored_ids stored.entries) (Some index) }
+    ensures { IfOk result (λ set. set ≡ set_of_stored stored) }
+{
     let Stored { entries, global } = stored;
-    Ok(SavedSet::of(saved_entries(alloc, entries)?, index, object_of(global)))
+    let saved = saved_entries(alloc, entries)?;
+    Ok(SavedSet::of(saved, index, object_of(global)))
 }
 
 /// Reads a text of the state store; an empty text is the empty set. The checks go in this order: the form and the version,
@@ -217,8 +226,11 @@ pub fn read_store(alloc: Global, text: &[u8]) -> Result<SavedSet, StateFault>
     if text.is_empty() {
         return Ok(SavedSet::new(alloc));
     }
-    match stored_of(alloc, text)? {
-        Some(stored) => set_of(alloc, stored),
-        None => Err(StateFault::NotJson),
+    let Some(stored) = stored_of(alloc, text)? else {
+        return Err(StateFault::NotJson);
+    };
+    match checked(alloc, &stored) {
+        Ok(index) => Ok(set_of(alloc, stored, index)?),
+        Err(fault) => Err(fault),
     }
 }

@@ -1,5 +1,5 @@
 // Reading an array of states.
-ghost use Rattle.std.specs.Prelude.{◌≡◌, ◌≢◌, ◌||◌, Ok, Err, All, count_by, IfErr, IfOk};
+ghost use Rattle.std.specs.Prelude.{◌≡◌, ◌≢◌, ◌||◌, Ok, Err, All, count_by, nat_lt, IfErr, IfOk, if◌then◌else◌};
 ghost use Rattle.std.specs.List.{AllZip, filter_map};
 ghost use Rattle.std.specs.Option.{option_copied};
 ghost use Rattle.json_span.specs.Members.{text_at};
@@ -7,7 +7,7 @@ ghost use Rattle.json_span.specs.Elements.{IsElementOf};
 ghost use Rattle.json_fields.specs.Answer.{IsAnswer, IsOnly};
 ghost use Rattle.airbyte_message.specs.States.{IsState};
 ghost use Rattle.state_kinds.specs.Store.{is_global_kind, is_legacy_kind, is_stream_kind, repeats_stream};
-ghost use Rattle.state_kinds.specs.StateLists.{AreStates, ReadsStates, first_list_fault, has_kind, list_fault, on_one_line, stream_of as stream_of_kind};
+ghost use Rattle.state_kinds.specs.StateLists.{AreStates, ReadsStates, first_list_fault, has_kind, list_fault, on_one_line, repeats_lane as repeats_lane_test, stream_of as stream_of_kind};
 
 use crate::once::add_once;
 use airbyte_message::{StateKind, StateMsg, state_of};
@@ -138,14 +138,32 @@ fn repeats_stream_of(alloc: Global, states: &[StateMsg]) -> Result<bool, NoMemor
     Ok(false)
 }
 
-// How many states are of all streams.
-fn global_count(states: &[StateMsg]) -> usize
-    ensures { result ≡ count_by (λ state. is_global_kind state.kind) states.now }
+// One for a state of all streams, else none.
+fn global_count(kind: &StateKind) -> usize
+    ensures { result ≡ (if is_global_kind kind.now then 1 else 0) }
 {
-    states
-        .iter()
-        .filter(|state| is_global(state.kind()))
-        .count()
+    if is_global(kind) { 1 } else { 0 }
+}
+
+// Whether two states, or more, are of all streams.
+fn repeats_global(states: &[StateMsg]) -> bool
+    ensures { result ≡ nat_lt 1 (count_by (λ state. is_global_kind state.kind) states.now) }
+{
+    let mut count = 0;
+    for state in states {
+        count += global_count(state.kind());
+    }
+    count > 1
+}
+
+// Whether a stream has two states, or two are of all streams.
+fn repeats_lane(alloc: Global, states: &[StateMsg]) -> Result<bool, NoMemory>
+    ensures { IfOk result (λ is. is ≡ repeats_lane_test states.now) }
+{
+    if repeats_stream_of(alloc, states)? {
+        return Ok(true);
+    }
+    Ok(repeats_global(states))
 }
 
 /// Reads an array of states, as a source is started with one. The checks go in this order: the form, states of the form before
@@ -160,7 +178,7 @@ pub fn read_list(alloc: Global, text: &[u8]) -> Result<StateList, StateFault>
     if let Some(fault) = first_fault_of(states.as_slice()) {
         return Err(fault);
     }
-    if repeats_stream_of(alloc, states.as_slice())? || global_count(states.as_slice()) > 1 {
+    if repeats_lane(alloc, states.as_slice())? {
         return Err(StateFault::Twice);
     }
     Ok(states)

@@ -1,25 +1,25 @@
-use Rattle.std.proofs.Common.{rules, All, IfOk, codes, ◌≡◌, ℕ, ◌+◌, ◌-◌, ◌*◌, ◌<◌, ◌≤◌, length, ◌/◌, ◌%◌, Bool, true, false, nat_eq, nat_lt, List, [], ◌∷◌, ◌++◌, slice_index_or, slice_set, bit_and, bit_or, Fits, w8, w32, w64, Bor, MutBor}
-use Rattle.std.specs.List.{AllZip}
-use Rattle.json_span.specs.Members.{text_at}
-use Rattle.json_span.specs.Elements.{IsElementOf}
-use Rattle.json_fields.specs.Answer.{IsAnswer}
-use Rattle.json_fields.specs.Fields.{IsCut}
-use Rattle.airbyte_message.specs.Parts.{IsStreamId}
-use Rattle.state_kinds.specs.Store.{AreStoredEntries, AreStoredParts, HasState, IsHeldState, IsStored, IsStoredEntry}
+use Rattle.std.proofs.Common.{ap, codes}
+use Rattle.std.specs.Option.{option_copied}
+use Rattle.json_fields.specs.Fields.{HasField}
+use Rattle.json_fields.proofs.AnswerLemmas.{along}
+use Rattle.state_kinds.specs.Store.{AreStoredEntries, HasState}
+use Rattle.state_kinds.proofs.FormLemmas.{parts_answer, parts_other, parts_unheld, parts_unlisted}
 use Rattle.state_kinds.proofs.form.parts_of.Goals as goal
 
--- src/form.rt:127:9
 pub returns-in_default : goal.returns-in_default
-returns-in_default c = ?
+returns-in_default c = parts_unlisted c.args.text.now (along (HasField c.args.text.now (codes "streams")) (ap option_copied c.in_default.is) c.in_ok-list.ensures.field)
 
--- src/form.rt:130:9
 pub returns-in_default-2 : goal.returns-in_default-2
-returns-in_default-2 c = ?
+returns-in_default-2 c =
+    parts_other c.args.text.now c.in-Some.list.now (along (HasField c.args.text.now (codes "streams")) (ap option_copied c.in-Some.is) c.in_ok-list.ensures.field) (along (AreStoredEntries c.in-Some.list.now) c.in_default-2.is c.in_ok-entries.ensures)
 
--- src/form.rt:133:9
 pub returns-in_default-3 : goal.returns-in_default-3
-returns-in_default-3 c = ?
+returns-in_default-3 c = parts_unheld c.args.text.now (along (HasState c.args.text.now (codes "global")) c.in_default-3.is c.in_ok-global.ensures)
 
--- src/form.rt:118:1
 pub returns : goal.returns
-returns c = ?
+returns c =
+    let text = c.args.text.now in
+    parts_answer text c.in-Some.list.now c.in-Some-2.entries c.in-Some-3.global
+    (along (HasField text (codes "streams")) (ap option_copied c.in-Some.is) c.in_ok-list.ensures.field)
+    (along (AreStoredEntries c.in-Some.list.now) c.in-Some-2.is c.in_ok-entries.ensures)
+    (along (HasState text (codes "global")) c.in-Some-3.is c.in_ok-global.ensures)

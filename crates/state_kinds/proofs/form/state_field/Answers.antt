@@ -1,17 +1,20 @@
-use Rattle.std.proofs.Common.{rules, All, IfOk, codes, ◌≡◌, ℕ, ◌+◌, ◌-◌, ◌*◌, ◌<◌, ◌≤◌, length, ◌/◌, ◌%◌, Bool, true, false, nat_eq, nat_lt, List, [], ◌∷◌, ◌++◌, slice_index_or, slice_set, bit_and, bit_or, Fits, w8, w32, w64, Bor, MutBor}
-use Rattle.std.specs.List.{AllZip}
-use Rattle.json_span.specs.Members.{text_at}
-use Rattle.json_span.specs.Elements.{IsElementOf}
-use Rattle.json_fields.specs.Answer.{IsAnswer}
-use Rattle.json_fields.specs.Fields.{IsCut}
-use Rattle.airbyte_message.specs.Parts.{IsStreamId}
-use Rattle.state_kinds.specs.Store.{AreStoredEntries, AreStoredParts, HasState, IsHeldState, IsStored, IsStoredEntry}
+use Rattle.std.proofs.Common.{ap}
+use Rattle.std.specs.Option.{option_copied}
+use Rattle.std.proofs.lemmas.Result.{IfOk-weaker}
+use Rattle.json_fields.specs.Fields.{HasField}
+use Rattle.json_fields.proofs.AnswerLemmas.{along}
+use Rattle.state_kinds.proofs.FormLemmas.{state_absent, state_at}
 use Rattle.state_kinds.proofs.form.state_field.Goals as goal
 
--- src/form.rt:32:1
 pub returns-in-Some : goal.returns-in-Some
-returns-in-Some c = ?
+returns-in-Some c =
+    let text = c.args.text.now in
+    let name = c.args.name.now in
+    let held = along (HasField text name) (ap option_copied c.in-Some.is) c.in_ok-held.ensures.field in
+    IfOk-weaker c.held_state_of.result _ _ (λ found answer. state_at text name c.in-Some.held.now found held answer) c.held_state_of.ensures
 
--- src/form.rt:32:1
 pub returns-in-None : goal.returns-in-None
-returns-in-None c = ?
+returns-in-None c =
+    let text = c.args.text.now in
+    let name = c.args.name.now in
+    state_absent text name (along (HasField text name) (ap option_copied c.in-None.is) c.in_ok-held.ensures.field)

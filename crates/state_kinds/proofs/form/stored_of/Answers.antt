@@ -1,25 +1,23 @@
-use Rattle.std.proofs.Common.{rules, All, IfOk, codes, ◌≡◌, ℕ, ◌+◌, ◌-◌, ◌*◌, ◌<◌, ◌≤◌, length, ◌/◌, ◌%◌, Bool, true, false, nat_eq, nat_lt, List, [], ◌∷◌, ◌++◌, slice_index_or, slice_set, bit_and, bit_or, Fits, w8, w32, w64, Bor, MutBor}
-use Rattle.std.specs.List.{AllZip}
-use Rattle.json_span.specs.Members.{text_at}
-use Rattle.json_span.specs.Elements.{IsElementOf}
-use Rattle.json_fields.specs.Answer.{IsAnswer}
-use Rattle.json_fields.specs.Fields.{IsCut}
-use Rattle.airbyte_message.specs.Parts.{IsStreamId}
-use Rattle.state_kinds.specs.Store.{AreStoredEntries, AreStoredParts, HasState, IsHeldState, IsStored, IsStoredEntry}
+use Rattle.std.proofs.Common.{◌≡◌, Some, ap, codes, ◌∙◌, subst, ℕ}
+use Rattle.std.proofs.lemmas.Result.{IfOk-weaker}
+use Rattle.json_fields.specs.Fields.{line_depth}
+use Rattle.json_fields.specs.Parts.{HasCount}
+use Rattle.json_fields.proofs.AnswerLemmas.{along, uncut}
+use Rattle.state_kinds.proofs.FormLemmas.{stored_answer, stored_later, stored_uncut, stored_unversioned}
 use Rattle.state_kinds.proofs.form.stored_of.Goals as goal
 
--- src/form.rt:143:9
 pub returns-in_default : goal.returns-in_default
-returns-in_default c = ?
+returns-in_default c = stored_uncut c.args.text.now (uncut line_depth c.args.text.now c.in_ok-members.field-0 c.in_default.is c.in_ok-members.ensures.none)
 
--- src/form.rt:141:1
 pub returns-in-Some-eq1 : goal.returns-in-Some-eq1
-returns-in-Some-eq1 c = ?
+returns-in-Some-eq1 c =
+    let text = c.args.text.now in
+    let version = along (HasCount text (codes "version")) c.in-Some-eq1.is c.in_ok-count_field.ensures in
+    IfOk-weaker c.parts_of.result _ _ (λ found answer. stored_answer text found (subst (λ (n : ℕ). HasCount text (codes "version") n) c.in-Some-eq1.field-0-test version.is) answer) c.parts_of.ensures
 
--- src/form.rt:141:1
 pub returns-in-Some-2 : goal.returns-in-Some-2
-returns-in-Some-2 c = ?
+returns-in-Some-2 c =
+    stored_later c.args.text.now c.in-Some-2._other (along (HasCount c.args.text.now (codes "version")) c.in-Some-2.is c.in_ok-count_field.ensures) c.in-Some-2._other-test.1
 
--- src/form.rt:139:1
 pub returns : goal.returns
-returns c = ?
+returns c = stored_unversioned c.args.text.now (along (HasCount c.args.text.now (codes "version")) c.in-None.is c.in_ok-count_field.ensures)

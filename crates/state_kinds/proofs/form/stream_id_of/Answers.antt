@@ -1,21 +1,15 @@
-use Rattle.std.proofs.Common.{rules, All, IfOk, codes, ◌≡◌, ℕ, ◌+◌, ◌-◌, ◌*◌, ◌<◌, ◌≤◌, length, ◌/◌, ◌%◌, Bool, true, false, nat_eq, nat_lt, List, [], ◌∷◌, ◌++◌, slice_index_or, slice_set, bit_and, bit_or, Fits, w8, w32, w64, Bor, MutBor}
-use Rattle.std.specs.List.{AllZip}
-use Rattle.json_span.specs.Members.{text_at}
-use Rattle.json_span.specs.Elements.{IsElementOf}
-use Rattle.json_fields.specs.Answer.{IsAnswer}
-use Rattle.json_fields.specs.Fields.{IsCut}
-use Rattle.airbyte_message.specs.Parts.{IsStreamId}
-use Rattle.state_kinds.specs.Store.{AreStoredEntries, AreStoredParts, HasState, IsHeldState, IsStored, IsStoredEntry}
+use Rattle.std.proofs.Common.{codes}
+use Rattle.json_fields.specs.Fields.{HasText, HasOptionalText}
+use Rattle.json_fields.proofs.AnswerLemmas.{along}
+use Rattle.airbyte_message.proofs.PartLemmas.{stream_id_answer, stream_id_misplaced, stream_id_unnamed}
 use Rattle.state_kinds.proofs.form.stream_id_of.Goals as goal
 
--- src/form.rt:57:9
 pub returns-in_default : goal.returns-in_default
-returns-in_default c = ?
+returns-in_default c = stream_id_unnamed c.args.text.now (codes "name") (along (HasText c.args.text.now (codes "name")) c.in_default.is c.in_ok-name.ensures)
 
--- src/form.rt:60:9
 pub returns-in_default-2 : goal.returns-in_default-2
-returns-in_default-2 c = ?
+returns-in_default-2 c = stream_id_misplaced c.args.text.now (codes "name") (along (HasOptionalText c.args.text.now (codes "namespace")) c.in_default-2.is c.in_ok-namespace.ensures)
 
--- src/form.rt:48:1
 pub returns : goal.returns
-returns c = ?
+returns c =
+    stream_id_answer c.args.text.now (codes "name") c.in-Some.name c.in-Some-2.namespace (along (HasText c.args.text.now (codes "name")) c.in-Some.is c.in_ok-name.ensures) (along (HasOptionalText c.args.text.now (codes "namespace")) c.in-Some-2.is c.in_ok-namespace.ensures)

@@ -4,5 +4,5 @@ use Rattle.state_kinds.specs.Store.{AddsOnce}
 use Rattle.state_kinds.proofs.once.add_once.Goals as goal
 
 -- src/once.rt:11:1
-pub returns-in_ok-copy-in-Some : goal.returns-in_ok-copy-in-Some
-returns-in_ok-copy-in-Some c = ?
+pub returns-in_ok-is_new-in-Some : goal.returns-in_ok-is_new-in-Some
+returns-in_ok-is_new-in-Some c = ?

@@ -1,19 +1,12 @@
-use Rattle.std.proofs.Common.{rules, ◌≡◌, ◌≢◌, ◌||◌, Ok, Err, All, count_by, IfErr, IfOk, ℕ, ◌+◌, ◌-◌, ◌*◌, ◌<◌, ◌≤◌, length, ◌/◌, ◌%◌, Bool, true, false, nat_eq, nat_lt, List, [], ◌∷◌, ◌++◌, slice_index_or, slice_set, bit_and, bit_or, Fits, w8, w32, w64, Bor, MutBor}
-use Rattle.std.specs.List.{AllZip, filter_map}
-use Rattle.std.specs.Option.{option_copied}
-use Rattle.json_span.specs.Members.{text_at}
-use Rattle.json_span.specs.Elements.{IsElementOf}
-use Rattle.json_fields.specs.Answer.{IsAnswer, IsOnly}
-use Rattle.airbyte_message.specs.States.{IsState}
-use Rattle.state_kinds.specs.Store.{is_global_kind, is_legacy_kind, is_stream_kind, repeats_stream}
-use Rattle.state_kinds.specs.StateLists.{AreStates, ReadsStates, first_list_fault, has_kind, list_fault, on_one_line}
-use Rattle.state_kinds.specs.StateLists.{stream_of as stream_of_kind}
+use Rattle.std.proofs.Common.{sym, ◌∙◌}
+use Rattle.std.proofs.lemmas.Result.{IfOk-weaker}
+use Rattle.state_kinds.proofs.StateListLemmas.{line_of_lines, line_of_one}
 use Rattle.state_kinds.proofs.states.listed_state_of.Goals as goal
 
--- src/states.rt:26:1
 pub returns-in_ok-line : goal.returns-in_ok-line
-returns-in_ok-line c = ?
+returns-in_ok-line c =
+    IfOk-weaker c.state_of.result _ _ (λ found answer. line_of_lines c.args.text.now c.as_slice.result.now found (sym c.contains.ensures.value ∙ c.if-contains.true) (c.as_slice.ensures ∙ c.in_ok-line.ensures.squeezed) answer) c.state_of.ensures
 
--- src/states.rt:26:1
 pub returns-else-contains : goal.returns-else-contains
-returns-else-contains c = ?
+returns-else-contains c =
+    IfOk-weaker c.state_of-else-contains.result _ _ (λ found answer. line_of_one c.args.text.now found (sym c.contains.ensures.value ∙ c.if-contains.false) answer) c.state_of-else-contains.ensures

@@ -1,19 +1,16 @@
-use Rattle.std.proofs.Common.{rules, ◌≡◌, ◌≢◌, ◌||◌, Ok, Err, All, count_by, IfErr, IfOk, ℕ, ◌+◌, ◌-◌, ◌*◌, ◌<◌, ◌≤◌, length, ◌/◌, ◌%◌, Bool, true, false, nat_eq, nat_lt, List, [], ◌∷◌, ◌++◌, slice_index_or, slice_set, bit_and, bit_or, Fits, w8, w32, w64, Bor, MutBor}
-use Rattle.std.specs.List.{AllZip, filter_map}
-use Rattle.std.specs.Option.{option_copied}
-use Rattle.json_span.specs.Members.{text_at}
-use Rattle.json_span.specs.Elements.{IsElementOf}
-use Rattle.json_fields.specs.Answer.{IsAnswer, IsOnly}
-use Rattle.airbyte_message.specs.States.{IsState}
-use Rattle.state_kinds.specs.Store.{is_global_kind, is_legacy_kind, is_stream_kind, repeats_stream}
-use Rattle.state_kinds.specs.StateLists.{AreStates, ReadsStates, first_list_fault, has_kind, list_fault, on_one_line}
-use Rattle.state_kinds.specs.StateLists.{stream_of as stream_of_kind}
+use Rattle.std.proofs.Common.{List, Option, IfSome, subst, sym}
+use Rattle.std.proofs.lemmas.Result.{IfOk-weaker}
+use Rattle.json_span.specs.declared.Span.{Span}
+use Rattle.json_fields.specs.Parts.{IsCutList}
+use Rattle.catalog.proofs.ListLemmas.{uncut_list}
+use Rattle.state_kinds.proofs.StateListLemmas.{states_answer, no_states}
 use Rattle.state_kinds.proofs.states.states_of.Goals as goal
 
--- src/states.rt:53:1
 pub returns-in-Some : goal.returns-in-Some
-returns-in-Some c = ?
+returns-in-Some c =
+    let found = subst (λ (f : Option (List Span)). IfSome f (IsCutList c.args.text.now)) c.in-Some.is c.in_ok-spans.ensures.cut in
+    let cut = subst (λ (ss : List Span). IsCutList c.args.text.now ss) (sym c.as_slice.ensures) found in
+    IfOk-weaker c.states_at.result _ _ (λ found answer. states_answer c.args.text.now c.as_slice.result.now found cut answer) c.states_at.ensures
 
--- src/states.rt:53:1
 pub returns-in-None : goal.returns-in-None
-returns-in-None c = ?
+returns-in-None c = no_states c.args.text.now (uncut_list c.args.text.now c.in_ok-spans.field-0 c.in-None.is c.in_ok-spans.ensures.none)
