@@ -99,17 +99,9 @@ saved_one_kind stored saved global sound is all some =
 
 -- ---- readings of the store
 
-pub empty_text : (text : List ℕ) (b : Bool) → b ≡ (length text == 0) → b ≡ true → text ≡ []
-empty_text [] b e is = refl
-empty_text (byte ∷ text) b e is = absurd (let h : false ≡ true = sym e ∙ is in cc)
-
 pub some_text : (text : List ℕ) (b : Bool) → b ≡ (length text == 0) → b ≡ false → text ≢ []
 some_text [] b e is = λ same. let h : true ≡ false = sym e ∙ is in cc
 some_text (byte ∷ text) b e is = λ same. cc
-
-pub reads_empty : (text : List ℕ) → text ≡ [] → IsOnly (ReadsStore text) (Ok nothing_saved)
-reads_empty [] e = record { is = refl; only = λ other r. r }
-reads_empty (byte ∷ text) e = absurd (cc)
 
 pub reads_other : (text : List ℕ) → text ≢ [] → IsAnswer (IsStored text) None → IsOnly (ReadsStore text) (Err fault.NotJson)
 reads_other [] some none = absurd (some refl)

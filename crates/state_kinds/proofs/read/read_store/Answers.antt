@@ -1,28 +1,19 @@
-use Rattle.std.proofs.Common.{rules, ◌≡◌, ◌≢◌, Ok, Err, None, Some, map, is_some, nat_lt, IfErr, IfOk, OnOk, ℕ, ◌+◌, ◌-◌, ◌*◌, ◌<◌, ◌≤◌, length, ◌/◌, ◌%◌, Bool, true, false, nat_eq, List, [], ◌∷◌, ◌++◌, slice_index_or, slice_set, bit_and, bit_or, Fits, w8, w32, w64, Bor, MutBor}
-use Rattle.std.specs.List.{list_any}
-use Rattle.std.specs.Option.{option_map}
-use Rattle.json_fields.specs.Answer.{IsOnly}
-use Rattle.state_kinds.specs.Store.{IsIndexOfStored, ReadsStore, first_fault}
-use Rattle.state_kinds.specs.Store.{is_global_kind as is_global_test}
-use Rattle.state_kinds.specs.Store.{is_legacy_kind as is_legacy_kind_test}
-use Rattle.state_kinds.specs.Store.{is_mixed as is_mixed_test}
-use Rattle.state_kinds.specs.Store.{is_of_another as is_of_another_test}
-use Rattle.state_kinds.specs.Store.{is_stray}
-use Rattle.state_kinds.specs.Store.{is_stream_kind as is_stream_kind_test}
-use Rattle.state_kinds.specs.Store.{passes}
-use Rattle.state_kinds.specs.Store.{saved_entry as saved_of}
-use Rattle.state_kinds.specs.Store.{set_of as set_of_stored}
-use Rattle.state_kinds.specs.Store.{store_fault, stored_ids}
+use Rattle.json_fields.proofs.AnswerLemmas.{along}
+use Rattle.state_kinds.specs.Store.{IsStored}
+use Rattle.state_kinds.proofs.ReadLemmas.{reads_fault, reads_other, reads_set, some_text}
 use Rattle.state_kinds.proofs.read.read_store.Goals as goal
 
--- src/read.rt:230:9
 pub returns-in_default-clause-refused : goal.returns-in_default-clause-refused
-returns-in_default-clause-refused c = ?
+returns-in_default-clause-refused c = λ other.
+    let text = c.args.text.now in
+    reads_other text (some_text text c.is_empty.result c.is_empty.ensures c.if-is_empty.false) (along (IsStored text) c.in_default.is c.in_ok-stored.ensures)
 
--- src/read.rt:222:1
 pub returns-in_ok-set_of-in-Ok-clause-read : goal.returns-in_ok-set_of-in-Ok-clause-read
-returns-in_ok-set_of-in-Ok-clause-read c = ?
+returns-in_ok-set_of-in-Ok-clause-read c =
+    let text = c.args.text.now in
+    reads_set text c.in-Some.stored c.in_ok-set_of-in-Ok.field-0 (some_text text c.is_empty.result c.is_empty.ensures c.if-is_empty.false) (along (IsStored text) c.in-Some.is c.in_ok-stored.ensures) c.in-Ok.ensures.sound c.in_ok-set_of-in-Ok.ensures
 
--- src/read.rt:222:1
 pub returns-in-Err-clause-refused : goal.returns-in-Err-clause-refused
-returns-in-Err-clause-refused c = ?
+returns-in-Err-clause-refused c = λ other.
+    let text = c.args.text.now in
+    reads_fault text c.in-Some.stored c.in-Err.fault (some_text text c.is_empty.result c.is_empty.ensures c.if-is_empty.false) (along (IsStored text) c.in-Some.is c.in_ok-stored.ensures) (c.in-Err.ensures.refused other)
