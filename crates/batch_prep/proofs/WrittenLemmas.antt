@@ -1,6 +1,6 @@
 -- Changes of which the array is open, and objects whose columns are being written.
 use Rattle.std.proofs.Common.{arith, ◌≡◌, ◌<◌, ◌≤◌, ◌+◌, ℕ, zero, suc, inl, inr, List, [], ◌∷◌, ◌++◌, map, codes, Option, None, Some, Bool, true, false, cond, nat_eq, length, take, slice_get, slice_index_or, refl, sym, ◌∙◌, ap, subst, append_assoc, append-nil}
-use Rattle.std.specs.List.{flat_map}
+use Rattle.std.proofs.lemmas.Bool.{ne_eqb}
 use Rattle.std.proofs.lemmas.List.{take_more, take_all}
 use Rattle.json.specs.Print.{quoted}
 use Rattle.json_write.specs.Objects.{Part, named, items_text, list_text, more_items, more_text, object_text, open_list, open_object, part_before, parts_text}
@@ -11,11 +11,13 @@ use Rattle.json_span.specs.declared.Span.{Span}
 use Rattle.json_fields.specs.Answer.{IsAnswer, IsOnly}
 use Rattle.json_fields.specs.Fields.{HasField, line_depth}
 use Rattle.column_types.specs.Rows.{AreCells, CameWith, HasChanges, IsCell, cell_parts, cell_text, change_text, columns_text, meta_text, own_changes}
+use Rattle.column_types.specs.Typed.{IsTyped}
+use Rattle.column_types.specs.declared.kind.ColumnType.{ColumnType}
 use Rattle.column_types.specs.declared.column.Column.{Column}
 use Rattle.column_types.specs.declared.typed.Typed.{Typed}
 use Rattle.column_types.specs.declared.typed.Typed.TheVariants.{Fits, Nulled}
 use Rattle.batch_prep.specs.declared.changes.Changes.{Changes}
-use Rattle.batch_prep.specs.Written.{AreOpen, HasCome, IsCellOf, PutsCell, changes_front, is_empty, is_nulled}
+use Rattle.batch_prep.specs.Written.{AreOpen, AreWritten, HasColumns, HasCome, IsCellOf, PutsCell, changes_front, is_empty, is_nulled, told_change}
 
 -- ---- changes
 
@@ -172,3 +174,91 @@ change_written old a b c d e name label is ea eb ec ed ee =
     last_mark old d e (field ∷ change ∷ reason ∷ [])
     (next_part old c d field (change ∷ []) reason (next_part old b c field [] change (first_part old a b field ea eb) ec) ed) ee
     ∙ ap (λ (l : List ℕ). old ++ object_text (named (codes "field") l ∷ change ∷ reason ∷ [])) is
+
+-- ---- a cell behind the text
+
+pub puts_none : (kind : ColumnType) (found : Option (List ℕ)) (old new : List ℕ) → found ≡ None → new ≡ old ++ codes "null" → PutsCell kind found old new false
+puts_none kind found old new e text = subst (λ (f : Option (List ℕ)). PutsCell kind f old new false) (sym e) (record { cell = Fits (codes "null"); is = refl; text = text; told = refl })
+
+pub puts_fitting : (kind : ColumnType) (found : Option (List ℕ)) (held written old new : List ℕ) → found ≡ Some held → IsTyped kind held (Fits written) → new ≡ old ++ written → PutsCell kind found old new false
+puts_fitting kind found held written old new e typed text = subst (λ (f : Option (List ℕ)). PutsCell kind f old new false) (sym e) (record { cell = Fits written; is = typed; text = text; told = refl })
+
+-- ---- one column more
+
+no_parts_at : (body : List ℕ) (columns : List Column) (i : ℕ) (cells : List Typed) → i < length columns → AreCells body (take i columns) cells → no_parts (cell_parts (take i columns) cells) ≡ nat_eq i 0
+no_parts_at body columns zero [] lt are = refl
+no_parts_at body columns zero (t ∷ cells) lt are = absurd are
+no_parts_at body [] (suc i) cells lt are = absurd (omega (arith, lt))
+no_parts_at body (c ∷ columns) (suc i) [] lt are = absurd are
+no_parts_at body (c ∷ columns) (suc i) (t ∷ cells) lt are = sym (ne_eqb (suc i) 0 (λ e. omega (arith, e)))
+
+cell_written : (old a b d new : List ℕ) (first : Bool) (name label value : List ℕ) → a ≡ old ++ mark first → b ≡ a ++ label → label ≡ quoted name → d ≡ b ++ 58 ∷ [] → new ≡ d ++ value → new ≡ old ++ (mark first ++ part_before (named name value) [])
+cell_written old a b d new first name label value ea eb el ed en =
+    en ∙ ap (λ (t : List ℕ). t ++ value) (ed ∙ ap (λ (t : List ℕ). t ++ 58 ∷ []) (eb ∙ ap (λ (t : List ℕ). t ++ label) ea ∙ ap (λ (t : List ℕ). (old ++ mark first) ++ t) el))
+    ∙ append_assoc ((old ++ mark first) ++ quoted name) (58 ∷ []) value ∙ append_assoc (old ++ mark first) (quoted name) (58 ∷ value)
+    ∙ append_assoc old (mark first) (quoted name ++ 58 ∷ value)
+    ∙ ap (λ (t : List ℕ). old ++ (mark first ++ (quoted name ++ 58 ∷ t))) (sym (append-nil value))
+
+written_step : (body : List ℕ) (columns : List Column) (i : ℕ) (d : Column) (came : List (List ℕ)) (text new : List ℕ) (old changes : Changes) (cell : Typed) → i < length columns → (was : AreWritten body (take i columns) came text old) → IsCell body (slice_index_or columns i d) cell → new ≡ text ++ (mark (nat_eq i 0) ++ part_before (named (slice_index_or columns i d).name (cell_text cell)) []) → AreOpen ((came ++ own_changes (take i columns) was.cells) ++ change_of (slice_index_or columns i d) cell) changes → AreWritten body (take (i + 1) columns) came new changes
+written_step body columns i d came text new old changes cell lt was is e opened =
+    let column = slice_index_or columns i d in
+    let front = take i columns in
+    subst (λ (l : List Column). AreWritten body l came new changes) (sym (take_more columns i d lt)) (record {
+      cells = was.cells ++ cell ∷ [];
+      typed = cells_behind body front was.cells column cell was.typed is;
+      open_text = e ∙ ap (λ (t : List ℕ). t ++ (mark (nat_eq i 0) ++ part_before (named column.name (cell_text cell)) [])) was.open_text
+          ∙ ap (λ (b : Bool). open_object (cell_parts front was.cells) ++ (mark b ++ part_before (named column.name (cell_text cell)) [])) (sym (no_parts_at body columns i was.cells lt was.typed))
+          ∙ open_object-more (cell_parts front was.cells) (named column.name (cell_text cell))
+          ∙ ap open_object (sym (parts_behind body front was.cells column cell was.typed));
+      own = subst (λ (l : List (List ℕ)). AreOpen l changes) (append_assoc came (own_changes front was.cells) (change_of column cell) ∙ ap (λ (l : List (List ℕ)). came ++ l) (sym (own_behind body front was.cells column cell was.typed))) opened;
+    })
+
+told : (cell : Typed) (column : Column) → change_of column cell ≡ told_change column.name (is_nulled cell)
+told (Fits written) column = refl
+told Nulled column = refl
+
+-- one column's mark, label, colon and cell were put
+pub record IsPut (body : List ℕ) (columns : List Column) (i : ℕ) (d : Column) (text new : List ℕ) (nulled : Bool) : Type 0 where
+  pub after_mark : List ℕ
+  pub after_label : List ℕ
+  pub after_colon : List ℕ
+  pub label : List ℕ
+  pub found : Option (List ℕ)
+  pub marked : after_mark ≡ text ++ mark (nat_eq i 0)
+  pub labelled : after_label ≡ after_mark ++ label
+  pub is_label : label ≡ quoted (slice_index_or columns i d).name
+  pub colon : after_colon ≡ after_label ++ 58 ∷ []
+  pub cell : PutsCell (slice_index_or columns i d).kind found after_colon new nulled
+  pub answer : IsAnswer (HasField body (slice_index_or columns i d).name) found
+
+pub written_more : (body : List ℕ) (columns : List Column) (i : ℕ) (d : Column) (came : List (List ℕ)) (text new : List ℕ) (nulled : Bool) (old changes : Changes) → i < length columns → IsPut body columns i d text new nulled → AreWritten body (take i columns) came text old → ((items : List (List ℕ)) → AreOpen items old → AreOpen (items ++ told_change (slice_index_or columns i d).name nulled) changes) → AreWritten body (take (i + 1) columns) came new changes
+written_more body columns i d came text new nulled old changes lt put was more =
+    let column = slice_index_or columns i d in
+    let cell = put.cell.cell in
+    written_step body columns i d came text new old changes cell lt was (cell_of body column put.found cell put.answer put.cell.is)
+    (cell_written text put.after_mark put.after_label put.after_colon new (nat_eq i 0) column.name put.label (cell_text cell) put.marked put.labelled put.is_label put.colon put.cell.text)
+    (subst (λ (l : List (List ℕ)). AreOpen ((came ++ own_changes (take i columns) was.cells) ++ l) changes) (sym (told cell column ∙ ap (told_change column.name) put.cell.told)) (more (came ++ own_changes (take i columns) was.cells) was.own))
+
+-- nothing is written yet
+pub written_none : (body : List ℕ) (columns : List Column) (came : List (List ℕ)) (text : List ℕ) (changes : Changes) → text ≡ 123 ∷ [] → AreOpen came changes → AreWritten body (take 0 columns) came text changes
+written_none body columns came text changes e opened = record {
+  cells = [];
+  typed = tt;
+  open_text = e;
+  own = subst (λ (l : List (List ℕ)). AreOpen l changes) (sym (append-nil came)) opened;
+}
+
+-- all columns are written, and the object is closed
+pub written_all : (body : List ℕ) (columns : List Column) (i : ℕ) (came : List (List ℕ)) (text new : List ℕ) (changes : Changes) → length columns ≤ i → AreWritten body (take i columns) came text changes → new ≡ text ++ 125 ∷ [] → HasColumns body columns came new changes
+written_all body columns i came text new changes past was e =
+    let all = subst (λ (l : List Column). AreWritten body l came text changes) (take_all i columns past) was in
+    record {
+      cells = all.cells;
+      typed = all.typed;
+      whole = e ∙ ap (λ (t : List ℕ). t ++ 125 ∷ []) all.open_text ∙ object_closed (cell_parts columns all.cells);
+      own = all.own;
+    }
+
+-- no change of a value that was not nulled
+pub none_told : (items : List (List ℕ)) (changes : Changes) → AreOpen items changes → AreOpen (items ++ []) changes
+none_told items changes opened = subst (λ (l : List (List ℕ)). AreOpen l changes) (sym (append-nil items)) opened

@@ -2,7 +2,7 @@
 use Rattle.std.specs.Prelude.{◌≡◌, ℕ, List, [], ◌∷◌, ◌++◌, Option, None, Some, Bool, true, false, codes}
 use Rattle.json.specs.Print.{quoted}
 use Rattle.json_write.specs.Objects.{open_list, open_object}
-use Rattle.column_types.specs.Rows.{AreCells, CameWith, cell_parts, cell_text, columns_text, own_changes}
+use Rattle.column_types.specs.Rows.{AreCells, CameWith, cell_parts, cell_text, change_text, columns_text, own_changes}
 use Rattle.column_types.specs.Typed.{IsTyped}
 use Rattle.column_types.specs.declared.kind.ColumnType.{ColumnType}
 use Rattle.column_types.specs.declared.column.Column.{Column}
@@ -13,6 +13,11 @@ use Rattle.batch_prep.specs.declared.changes.Changes.{Changes}
 abbrev pub is_nulled : Typed → Bool
 is_nulled (Fits written) = false
 is_nulled Nulled = true
+
+-- the change that is told of a column's value, where it was nulled
+abbrev pub told_change : List ℕ → Bool → List (List ℕ)
+told_change name false = []
+told_change name true = change_text name ∷ []
 
 -- what a column of this kind has of what was found
 abbrev pub IsCellOf : ColumnType → Option (List ℕ) → Typed → Type 0

@@ -1,5 +1,7 @@
 // The rows of a batch.
-ghost use Rattle.std.specs.Prelude.{◌≡◌, ◌++◌, List, IfErr, IfOk, IfSome, IfNone, option_to_list};
+ghost use Rattle.std.specs.Prelude.{◌≡◌, ◌++◌, List, IfErr, IfOk, IfSome, IfNone, OnOk, option_to_list};
+ghost use Rattle.json_fields.specs.Answer.{IsOnly};
+ghost use Rattle.airbyte_message.specs.Messages.{IsMessage};
 ghost use Rattle.airbyte_message.specs.Views.{message_at};
 ghost use Rattle.batch_prep.specs.Contents.{IsContentOf, HasNoContent};
 ghost use Rattle.batch_prep.specs.Places.{IsLayout};
@@ -38,6 +40,28 @@ fn content_of<'a>(view: &'a MessageView<'_>) -> Option<Content<'a>>
     }
 }
 
+// The row of a line that is this message, where that is a record.
+fn view_row(
+    alloc: Global,
+    plan: &PrepPlan,
+    layout: &Layout,
+    finder: &mut Finder,
+    line: &SeqLine,
+    view: &MessageView<'_>,
+) -> Result<Option<RawRow>, NoMemory>
+    requires layout { IsLayout plan.now layout.now }
+    requires message { IsOnly (IsMessage line.now.line) (message_at view.now) }
+    ensures { IfOk result (λ row. (later : List RawRow) → AddsRow plan.now line.now later (option_to_list row ++ later)) }
+{
+    match content_of(view) {
+        Some(content) => {
+            let row = row_of(alloc, plan, layout, finder, line.seq, &content)?;
+            Ok(Some(row))
+        }
+        None => Ok(None),
+    }
+}
+
 // The row of a line, where it is a RECORD message.
 fn line_row(
     alloc: Global,
@@ -50,15 +74,19 @@ fn line_row(
     requires { IsLayout plan.now layout.now }
     ensures { IfOk result (λ row. (later : List RawRow) → AddsRow plan.now line.now later (option_to_list row ++ later)) }
 {
-    let Some(view) = reader.read(line.line.as_slice())? else {
-        return Ok(None);
-    };
-    match content_of(&view) {
-        Some(content) => {
-            let row = row_of(alloc, plan, layout, finder, line.seq, &content)?;
-            Ok(Some(row))
-        }
+    match reader.read(line.line.as_slice())? {
+        Some(view) => view_row(alloc, plan, layout, finder, line, &view),
         None => Ok(None),
+    }
+}
+
+// Puts a row behind the others, where there is one.
+fn keep(rows: &mut RawRowList, row: Option<RawRow>) -> Result<(), NoMemory>
+    ensures { OnOk result (rows.new ≡ rows.old ++ option_to_list row) }
+{
+    match row {
+        Some(row) => rows.push(row),
+        None => Ok(()),
     }
 }
 
@@ -71,9 +99,15 @@ fn rows_of(alloc: Global, item: &WorkItem) -> Result<RawRowList, NoMemory>
     let mut finder = Finder::new(alloc);
     let mut rows = RawRowList::with_capacity(alloc, item.lines.len())?;
     for line in item.lines.as_slice() {
-        if let Some(row) = line_row(alloc, &item.plan, &layout, &mut reader, &mut finder, line)? {
-            rows.push(row)?;
-        }
+        let row = line_row(
+            alloc,
+            &item.plan,
+            &layout,
+            &mut reader,
+            &mut finder,
+            line,
+        )?;
+        keep(&mut rows, row)?;
     }
     Ok(rows)
 }

@@ -1,9 +1,11 @@
 // The columns of a row.
-ghost use Rattle.std.specs.Prelude.{◌≡◌, ℕ, List, IfOk, IfSome, OnOk};
+ghost use Rattle.std.specs.Prelude.{◌≡◌, ◌++◌, ℕ, List, IfOk, IfSome, OnOk};
+ghost use Rattle.std.specs.Fmt.{signed_decimal};
 ghost use Rattle.std.specs.Option.{option_copied};
+ghost use Rattle.json.specs.Print.{quoted};
 ghost use Rattle.json_span.specs.Members.{IsValue};
 ghost use Rattle.batch_prep.specs.Places.{AreFound, IsLayout};
-ghost use Rattle.batch_prep.specs.Written.{AreOpen, HasColumns, PutsCell};
+ghost use Rattle.batch_prep.specs.Written.{AreOpen, HasColumns, PutsCell, told_change};
 
 use crate::PrepPlan;
 use crate::changes::Changes;
@@ -14,6 +16,14 @@ use column_types::{ColumnType, Way, way_of};
 use itoa::Buffer;
 use json_write::put_comma;
 use std::alloc::Global;
+
+// Puts a whole number as a plain decimal.
+fn put_whole(text: &mut Bytes, number: i64) -> Result<(), NoMemory>
+    ensures { OnOk result (text.new ≡ text.old ++ signed_decimal number) }
+{
+    let mut buffer = Buffer::new();
+    text.extend(buffer.format(number).as_bytes())
+}
 
 // Puts what a column of this kind has of what was found, and tells whether a value was nulled.
 fn put_cell(text: &mut Bytes, kind: ColumnType, found: Option<&[u8]>) -> Result<bool, NoMemory>
@@ -30,14 +40,24 @@ fn put_cell(text: &mut Bytes, kind: ColumnType, found: Option<&[u8]>) -> Result<
             Ok(false)
         }
         Way::Whole(number) => {
-            let mut buffer = Buffer::new();
-            text.extend(buffer.format(number).as_bytes())?;
+            put_whole(text, number)?;
             Ok(false)
         }
         Way::Nulled => {
             text.extend(b"null")?;
             Ok(true)
         }
+    }
+}
+
+// Puts the change of a column's value, where it was nulled.
+fn tell(changes: &mut Changes, label: &[u8], nulled: bool) -> Result<(), NoMemory>
+    ensures { OnOk result ((items : List (List ℕ)) (name : List ℕ) → label.now ≡ quoted name → AreOpen items changes.old → AreOpen (items ++ told_change name nulled) changes.new) }
+{
+    if nulled {
+        changes.put_nulled(label)
+    } else {
+        Ok(())
     }
 }
 
@@ -62,9 +82,8 @@ pub fn columns_text(
         put_comma(&mut text, i == 0)?;
         text.extend(label)?;
         text.push(b':')?;
-        if put_cell(&mut text, column.kind, finder.held(layout, body, slot))? {
-            changes.put_nulled(label)?;
-        }
+        let nulled = put_cell(&mut text, column.kind, finder.held(layout, body, slot))?;
+        tell(changes, label, nulled)?;
     }
     text.push(b'}')?;
     Ok(text)
