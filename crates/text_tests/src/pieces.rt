@@ -29,7 +29,10 @@ fn lines_come_whole_from_pieces(rt: HostRuntime) -> Result<(), Fail> {
         lines.feed(piece.as_bytes())?;
     }
     assert!(rt; next_is(&mut lines, "abc")?, "a line");
-    assert!(rt; matches!(lines.next()?, NextLine::More), "no more lines yet");
+    assert!(rt;
+        matches!(lines.next()?, NextLine::More),
+        "no more lines yet"
+    );
     assert!(rt; ends_with(&mut lines, " d"), "a torn piece");
     Ok(())
 }
@@ -39,7 +42,10 @@ fn a_piece_above_the_limit_is_too_long_for_good(rt: HostRuntime) -> Result<(), F
     let mut lines = Lines::new(rt.alloc(), 2);
     for piece in ["abc\n", "d\n"] {
         lines.feed(piece.as_bytes())?;
-        assert!(rt; matches!(lines.next()?, NextLine::TooLong), "after {piece:?}");
+        assert!(rt;
+            matches!(lines.next()?, NextLine::TooLong),
+            "after {piece:?}"
+        );
     }
     Ok(())
 }

@@ -64,7 +64,10 @@ fn stands_for(alloc: Global, text: &[u8], meaning: &str) -> Result<bool, NoMemor
 #[test]
 fn strings_stand_for_their_texts(rt: HostRuntime) -> Result<(), Fail> {
     for (text, meaning) in STRINGS {
-        assert!(rt; stands_for(rt.alloc(), text.as_bytes(), meaning)?, "in {text:?}");
+        assert!(rt;
+            stands_for(rt.alloc(), text.as_bytes(), meaning)?,
+            "in {text:?}"
+        );
     }
     Ok(())
 }

@@ -45,7 +45,10 @@ fn after_a_line_that_cannot_be_said_nothing_more_is_said(rt: HostRuntime) -> Res
 #[test]
 fn what_cannot_be_written_out_is_a_fault_of_saying(rt: HostRuntime) -> Result<(), Fail> {
     let flush = LINES.len() as u64 + 3;
-    assert!(rt; fails(rt.alloc(), flush, Status::SayFault, LINES)?, "a flush that fails");
+    assert!(rt;
+        fails(rt.alloc(), flush, Status::SayFault, LINES)?,
+        "a flush that fails"
+    );
     Ok(())
 }
 
@@ -60,7 +63,9 @@ fn says_a_front(alloc: Global) -> Result<bool, Fail> {
     let mut desk = desk_of(alloc, MESSAGES.as_bytes(), CATALOG.as_bytes(), 0)?;
     match run_over(alloc, &mut desk, LOCAL)? {
         Status::Ok => Ok(has_said(&desk, LINES)),
-        Status::NoMemory => Ok(desk.said().len() <= LINES.len() && has_said(&desk, &LINES[..desk.said().len()])),
+        Status::NoMemory => Ok(
+            desk.said().len() <= LINES.len() && has_said(&desk, &LINES[..desk.said().len()]),
+        ),
         _ => Ok(false),
     }
 }

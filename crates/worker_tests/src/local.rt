@@ -236,7 +236,13 @@ fn a_catalog_is_refused_before_missing_messages_are_asked_for(rt: HostRuntime) -
     let words = ["local", "--messages", "none", "--catalog", "c"];
     let status = Status::Unbuilt { line: 0 };
     let desk = desk_of(rt.alloc(), b"", b"{}", 0)?;
-    let said = says(rt.alloc(), desk, &words, status, &["status 60 Unbuilt line 0"])?;
+    let said = says(
+        rt.alloc(),
+        desk,
+        &words,
+        status,
+        &["status 60 Unbuilt line 0"],
+    )?;
     assert!(rt; said);
     Ok(())
 }

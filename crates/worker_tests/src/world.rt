@@ -16,6 +16,7 @@ const OBJECT: &str =
 // The store's text with that state, and with none.
 const HELD: &str =
     "{\"version\":1,\"streams\":[{\"name\":\"a\",\"generation\":0,\"state\":{\"type\":\"STREAM\",\"stream\":{\"stream_descriptor\":{\"name\":\"a\"},\"stream_state\":{\"n\":1}},\"sourceStats\":{\"recordCount\":1}}}],\"global\":null}";
+
 const EMPTY: &str =
     "{\"version\":1,\"streams\":[{\"name\":\"a\",\"generation\":0,\"state\":null}],\"global\":null}";
 
