@@ -1,6 +1,6 @@
 // The lines by which states are sent back.
-use crate::reading::state_in;
-use airbyte_message::{Message, StateKind, StateMsg, echo_of, read_message};
+use crate::reading::{Want, fits, is_text, state_in};
+use airbyte_message::{Message, StateKind, StateMsg, echo_of};
 use basics::{Bytes, NoMemory};
 use std::alloc::Global;
 use std::test::Fail;
@@ -36,29 +36,30 @@ fn echo(alloc: Global, state: &StateMsg, count: u64) -> Result<Option<Bytes>, No
     }
 }
 
-// Whether the echo of a message with this count is this text.
-fn echoes(alloc: Global, message: &Message, count: u64, want: &str) -> Result<bool, NoMemory> {
-    let Some(state) = state_in(message) else {
-        return Ok(false);
-    };
-    match echo(alloc, state, count)? {
-        Some(text) => Ok(text.as_slice() == want.as_bytes()),
-        None => Ok(false),
-    }
+// A message whose echo with this count is this text.
+#[derive(Drop)]
+struct Echoes<'a> {
+    count: u64,
+    text: &'a str,
 }
 
-// Whether the echo of a line with this count is this text.
-fn echoes_as(alloc: Global, line: &str, count: u64, want: &str) -> Result<bool, NoMemory> {
-    match read_message(alloc, line.as_bytes())? {
-        Some(message) => echoes(alloc, &message, count, want),
-        None => Ok(false),
+impl Want for Echoes<'_> {
+    fn holds(&self, alloc: Global, message: &Message) -> Result<bool, NoMemory> {
+        let Some(state) = state_in(message) else {
+            return Ok(false);
+        };
+        Ok(is_text(&echo(alloc, state, self.count)?, Some(self.text)))
     }
 }
 
 #[test]
 fn an_echo_has_the_state_as_it_stood_and_the_count(rt: HostRuntime) -> Result<(), Fail> {
-    for (line, count, want) in ECHOES {
-        assert!(rt; echoes_as(rt.alloc(), line, *count, want)?, "of {line}");
+    for (line, count, text) in ECHOES {
+        let want = Echoes {
+            count: *count,
+            text,
+        };
+        assert!(rt; fits(rt.alloc(), line, &want)?, "of {line}");
     }
     Ok(())
 }

@@ -1,8 +1,6 @@
 // Messages of the kinds that carry no record and no state, and states of all kinds.
-use crate::reading::{is_message, state_in};
-use airbyte_message::{
-    ConnectionMsg, LogMsg, Message, StateKind, TraceMsg, read_message, same_state,
-};
+use crate::reading::{Want, fits, is_message, state_in};
+use airbyte_message::{ConnectionMsg, LogMsg, Message, StateKind, TraceMsg, same_state};
 use basics::NoMemory;
 use message_writer::write_message;
 use std::alloc::{AllocError, Global};
@@ -133,18 +131,22 @@ fn told(alloc: Global, message: &Message) -> Result<String, AllocError> {
     }
 }
 
-// Whether the line is a message that tells this.
-fn tells(alloc: Global, line: &str, want: &str) -> Result<bool, Fail> {
-    match read_message(alloc, line.as_bytes())? {
-        Some(message) => Ok(told(alloc, &message)?.as_str() == want),
-        None => Ok(false),
+// A message that tells this.
+#[derive(Drop)]
+struct Tells<'a> {
+    text: &'a str,
+}
+
+impl Want for Tells<'_> {
+    fn holds(&self, alloc: Global, message: &Message) -> Result<bool, NoMemory> {
+        Ok(told(alloc, message)?.as_str() == self.text)
     }
 }
 
 #[test]
 fn each_kind_is_read_from_its_line(rt: HostRuntime) -> Result<(), Fail> {
-    for (line, want) in KINDS {
-        assert!(rt; tells(rt.alloc(), line, want)?, "{line}");
+    for (line, text) in KINDS {
+        assert!(rt; fits(rt.alloc(), line, &Tells { text })?, "{line}");
     }
     Ok(())
 }
@@ -190,32 +192,49 @@ fn line_with(alloc: Global, blob: &str, more: &str) -> Result<String, AllocError
     )
 }
 
-// Whether two messages are the same state.
-fn are_same(alloc: Global, message: &Message, other: &Message) -> Result<bool, NoMemory> {
-    match (state_in(message), state_in(other)) {
-        (Some(a), Some(b)) => same_state(alloc, a, b),
-        _ => Ok(false),
+// A state that is the same as that of the other message, or is not.
+#[derive(Drop)]
+struct IsSame<'a> {
+    other: &'a Message,
+    is: bool,
+}
+
+impl Want for IsSame<'_> {
+    fn holds(&self, alloc: Global, message: &Message) -> Result<bool, NoMemory> {
+        match (state_in(message), state_in(self.other)) {
+            (Some(a), Some(b)) => Ok(same_state(alloc, a, b)? == self.is),
+            _ => Ok(false),
+        }
     }
 }
 
-// Whether two lines are the same state, if both are messages.
-fn same_lines(alloc: Global, line: &str, other: &str) -> Result<Option<bool>, NoMemory> {
-    let Some(message) = read_message(alloc, line.as_bytes())? else {
-        return Ok(None);
-    };
-    match read_message(alloc, other.as_bytes())? {
-        Some(other) => Ok(Some(are_same(alloc, &message, &other)?)),
-        None => Ok(None),
+// A state that is the same as that of the other line, or is not.
+#[derive(Drop)]
+struct IsSameAsLine<'a> {
+    other: &'a str,
+    is: bool,
+}
+
+impl Want for IsSameAsLine<'_> {
+    fn holds(&self, alloc: Global, message: &Message) -> Result<bool, NoMemory> {
+        let is = self.is;
+        fits(alloc, self.other, &IsSame { other: message, is })
     }
 }
 
 #[test]
 fn states_are_the_same_up_to_white_space_and_counts(rt: HostRuntime) -> Result<(), Fail> {
-    for (blob, other, want) in BLOBS {
+    for (blob, other, is) in BLOBS {
         let line = line_with(rt.alloc(), blob, r#","sourceStats":{"recordCount":1}"#)?;
         let other_line = line_with(rt.alloc(), other, "")?;
-        let same = same_lines(rt.alloc(), line.as_str(), other_line.as_str())?;
-        assert!(rt; same == Some(*want), "{blob} and {other}");
+        let want = IsSameAsLine {
+            other: other_line.as_str(),
+            is: *is,
+        };
+        assert!(rt;
+            fits(rt.alloc(), line.as_str(), &want)?,
+            "{blob} and {other}"
+        );
     }
     Ok(())
 }
@@ -233,18 +252,22 @@ const WRITTEN: &[&str] = &[
     r#"{"type":"CONTROL","control":{"type":"CONNECTOR_CONFIG"}}"#,
 ];
 
-// Whether the line is a message that is written as this line again.
-fn is_written_again(alloc: Global, line: &str) -> Result<bool, NoMemory> {
-    match read_message(alloc, line.as_bytes())? {
-        Some(message) => Ok(write_message(alloc, &message)?.as_slice() == line.as_bytes()),
-        None => Ok(false),
+// A message that is written as this line.
+#[derive(Drop)]
+struct IsWritten<'a> {
+    line: &'a str,
+}
+
+impl Want for IsWritten<'_> {
+    fn holds(&self, alloc: Global, message: &Message) -> Result<bool, NoMemory> {
+        Ok(write_message(alloc, message)?.as_slice() == self.line.as_bytes())
     }
 }
 
 #[test]
 fn a_line_in_the_written_form_is_written_again(rt: HostRuntime) -> Result<(), Fail> {
     for line in WRITTEN {
-        assert!(rt; is_written_again(rt.alloc(), line)?, "{line}");
+        assert!(rt; fits(rt.alloc(), line, &IsWritten { line })?, "{line}");
     }
     Ok(())
 }

@@ -46,14 +46,29 @@ fn lists_grow(rt: HostRuntime) -> Result<(), Fail> {
     Ok(())
 }
 
+// Whether names hold what was put in.
+fn names_hold(alloc: Global) -> Result<bool, Fail> {
+    let copied = Name::copy_of(alloc, "Zoë")?;
+    let moved = Name::from_string(String::from_str(alloc, "")?);
+    Ok(copied.as_str() == "Zoë" && moved.as_str() == "")
+}
+
+// Whether the bytes of a string are those of its UTF-8.
+fn bytes_hold(alloc: Global) -> Result<bool, Fail> {
+    let text = Bytes::from_string(String::from_str(alloc, "Zoë")?);
+    let want = b"\x5a\x6f\xc3\xab".as_slice();
+    Ok(text.as_slice() == want && text.into_vec().as_slice() == want)
+}
+
+// Whether a box holds what was put in.
+fn box_holds(alloc: Global) -> Result<bool, NoMemory> {
+    Ok(*Boxed::new(alloc, 7)?.get() == 7)
+}
+
 #[test]
 fn names_and_boxes_hold_what_was_put_in(rt: HostRuntime) -> Result<(), Fail> {
-    let alloc = rt.alloc();
-    assert!(rt; Name::copy_of(alloc, "Zoë")?.as_str() == "Zoë");
-    assert!(rt; Name::from_string(String::from_str(alloc, "")?).as_str() == "");
-    assert!(rt; *Boxed::new(alloc, 7)?.get() == 7);
-    let text = Bytes::from_string(String::from_str(alloc, "Zoë")?);
-    assert!(rt; text.as_slice() == b"\x5a\x6f\xc3\xab".as_slice());
-    assert!(rt; text.into_vec().as_slice() == b"\x5a\x6f\xc3\xab".as_slice());
+    assert!(rt; names_hold(rt.alloc())?, "names");
+    assert!(rt; bytes_hold(rt.alloc())?, "bytes");
+    assert!(rt; box_holds(rt.alloc())?, "a box");
     Ok(())
 }

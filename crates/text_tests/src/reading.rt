@@ -3,6 +3,20 @@ use airbyte_message::{Message, RecordMsg, StateMsg, read_message};
 use basics::{Bytes, NoMemory};
 use std::alloc::Global;
 
+/// What may hold of a message. A function that owns a message is dear to prove, so there is one, `fits`, and a test says
+/// what is to hold by a type of its own.
+pub trait Want {
+    fn holds(&self, alloc: Global, message: &Message) -> Result<bool, NoMemory>;
+}
+
+/// Whether a line is a message of which this holds.
+pub fn fits<W: Want>(alloc: Global, line: &str, want: &W) -> Result<bool, NoMemory> {
+    match read_message(alloc, line.as_bytes())? {
+        Some(message) => want.holds(alloc, &message),
+        None => Ok(false),
+    }
+}
+
 /// Whether a line is a message.
 pub fn is_message(alloc: Global, line: &[u8]) -> Result<bool, NoMemory> {
     Ok(read_message(alloc, line)?.is_some())

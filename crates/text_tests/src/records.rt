@@ -1,6 +1,6 @@
 // Which lines are records, and what they hold.
-use crate::reading::{is_message, is_text, record_in};
-use airbyte_message::{RecordMsg, read_message};
+use crate::reading::{Want, fits, is_message, is_text, record_in};
+use airbyte_message::{Message, RecordMsg};
 use basics::NoMemory;
 use std::alloc::Global;
 use std::test::Fail;
@@ -75,7 +75,7 @@ const RECORDS: &[Record] = &[
 ];
 
 // Whether a record holds what is wanted.
-fn holds(content: &RecordMsg, want: &Record) -> bool {
+fn is_record(content: &RecordMsg, want: &Record) -> bool {
     let namespace = content.id.namespace.as_ref().map(|name| name.as_str());
     content.id.name.as_str() == want.stream
         && namespace == want.namespace
@@ -84,19 +84,23 @@ fn holds(content: &RecordMsg, want: &Record) -> bool {
         && is_text(&content.meta, want.meta)
 }
 
-// Whether the line is a record that holds what is wanted.
-fn reads(alloc: Global, want: &Record) -> Result<bool, NoMemory> {
-    let message = read_message(alloc, want.line.as_bytes())?;
-    match message.as_ref().and_then(record_in) {
-        Some(content) => Ok(holds(content, want)),
-        None => Ok(false),
+impl Want for Record {
+    fn holds(&self, _alloc: Global, message: &Message) -> Result<bool, NoMemory> {
+        Ok(match record_in(message) {
+            Some(content) => is_record(content, self),
+            None => false,
+        })
     }
 }
 
 #[test]
 fn records_hold_their_members(rt: HostRuntime) -> Result<(), Fail> {
     for record in RECORDS {
-        assert!(rt; reads(rt.alloc(), record)?, "in {}", record.line);
+        assert!(rt;
+            fits(rt.alloc(), record.line, record)?,
+            "in {}",
+            record.line
+        );
     }
     Ok(())
 }

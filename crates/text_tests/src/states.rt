@@ -1,6 +1,6 @@
 // Which lines are states, and what they hold.
-use crate::reading::{is_message, is_text, state_in};
-use airbyte_message::{StateKind, StateMsg, read_message};
+use crate::reading::{Want, fits, is_message, is_text, state_in};
+use airbyte_message::{Message, StateKind, StateMsg, read_message};
 use basics::{Bytes, Copies, NoMemory, StreamId};
 use std::alloc::{AllocError, Global};
 use std::test::Fail;
@@ -73,28 +73,28 @@ fn is_of(id: &StreamId, blob: &Option<Bytes>, want: &State) -> bool {
 }
 
 // Whether a state holds what is wanted.
-fn holds(state: &StateMsg, want: &State) -> bool {
+fn is_state(state: &StateMsg, want: &State) -> bool {
     let kind = match state.kind() {
         StateKind::Stream { id, blob } => is_of(id, blob, want),
         _ => false,
     };
-    kind && state.object().as_slice() == want.object.as_bytes()
-        && state.source_count() == want.count
+    let object = state.object().as_slice() == want.object.as_bytes();
+    kind && object && state.source_count() == want.count
 }
 
-// Whether the line is a state that holds what is wanted.
-fn reads(alloc: Global, want: &State) -> Result<bool, NoMemory> {
-    let message = read_message(alloc, want.line.as_bytes())?;
-    match message.as_ref().and_then(state_in) {
-        Some(state) => Ok(holds(state, want)),
-        None => Ok(false),
+impl Want for State {
+    fn holds(&self, _alloc: Global, message: &Message) -> Result<bool, NoMemory> {
+        Ok(match state_in(message) {
+            Some(state) => is_state(state, self),
+            None => false,
+        })
     }
 }
 
 #[test]
 fn states_hold_their_members(rt: HostRuntime) -> Result<(), Fail> {
     for state in STATES {
-        assert!(rt; reads(rt.alloc(), state)?, "in {}", state.line);
+        assert!(rt; fits(rt.alloc(), state.line, state)?, "in {}", state.line);
     }
     Ok(())
 }
