@@ -190,6 +190,7 @@ impl Pool {
         ensures chain { result ≡ first_of stream self.old.held }
         ensures held { self.new ≡ record (self.old) { held = with_front_detached stream max self.old.held } }
         ensures queue { queue_of stream self.new.held ≡ drop max (queue_of stream self.old.held) }
+        ensures records { IfSome result (λ chain. chain_of chain self.new.held ≡ take max (queue_of stream self.old.held)) }
     {
         let from = front_index(&self.held, stream)?;
         let front = self.held[from].seq;
