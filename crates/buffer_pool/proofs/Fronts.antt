@@ -1,5 +1,5 @@
 -- Each chain has a number of its own.
-use Rattle.std.proofs.Common.{arith, ◌≡◌, ℕ, zero, suc, ◌+◌, ◌-◌, ◌<◌, ◌≤◌, ◌==◌, List, [], ◌∷◌, ◌++◌, Bool, true, false, refl, sym, ◌∙◌, ap, subst, inl, inr, ◌⊎◌, ◌&&◌, ◌||◌, not, nat_lt, take, Option, None, Some, All, unwrap_or}
+use Rattle.std.proofs.Common.{arith, ◌≡◌, ℕ, zero, suc, ◌+◌, ◌-◌, ◌<◌, ◌≤◌, ◌==◌, List, [], ◌∷◌, ◌++◌, Bool, true, false, refl, sym, ◌∙◌, ap, subst, inl, inr, ◌⊎◌, ◌&&◌, ◌||◌, not, nat_lt, take, Option, None, Some, unwrap_or}
 use Rattle.std.specs.List.{AllByRecursion, list_any}
 use Rattle.std.proofs.lemmas.Bool.{cases_Bool, false≢true}
 use Rattle.std.proofs.lemmas.Grind.{common_steps}
@@ -44,10 +44,6 @@ or_second true b none = absurd (false≢true (sym none))
 
 -- A record more
 
-each_of : (P : Slot → Type 0) (held : List Slot) → All P held → AllByRecursion P held
-each_of P [] all = tt
-each_of P (slot ∷ more) all = (all 0 slot (omega arith), each_of P more (λ k d within. all (suc k) d (omega (arith, within))))
-
 all_push : (P : Slot → Type 0) (held : List Slot) (slot : Slot) → AllByRecursion P held → P slot → AllByRecursion P (held ++ slot ∷ [])
 all_push P [] slot all last = (last, tt)
 all_push P (other ∷ more) slot all last = (all.0, all_push P more slot all.1 last)
@@ -63,8 +59,8 @@ named_push held (other ∷ more) slot named below = (at other.chain named.0, nam
     at None is = tt
     at (Some chain) is = (is.0, any_push (stands_apart chain) held slot is.1 (above_apart chain slot (omega (arith, is.0, below.0))))
 
-pub push_named : (held : List Slot) (slot : Slot) → slot.chain ≡ None → AreNamed held held → All (λ other. other.seq < slot.seq) held → AreNamed (held ++ slot ∷ []) (held ++ slot ∷ [])
-push_named held slot queued named below = all_push (λ other. IsNamed (held ++ slot ∷ []) other.seq other.chain) held slot (named_push held held slot named (each_of (λ other. other.seq < slot.seq) held below)) (rw queued tt)
+pub push_named : (held : List Slot) (slot : Slot) → slot.chain ≡ None → AreNamed held held → AllByRecursion (λ other. other.seq < slot.seq) held → AreNamed (held ++ slot ∷ []) (held ++ slot ∷ [])
+push_named held slot queued named below = all_push (λ other. IsNamed (held ++ slot ∷ []) other.seq other.chain) held slot (named_push held held slot named below) (rw queued tt)
 
 -- The front of a queue
 

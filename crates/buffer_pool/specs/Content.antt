@@ -12,6 +12,8 @@ pub record PoolView : Type 0 where
   -- how many records, and how many bytes of them, it may hold
   pub slots : ℕ
   pub bytes : ℕ
+  -- above the sequences of all records that were ever pushed
+  pub next : ℕ
 
 -- sequences rise, from this one on
 abbrev pub RiseFrom : ℕ → List Slot → Type 0
@@ -106,11 +108,12 @@ abbrev pub AreNamed : List Slot → List Slot → Type 0
 AreNamed held part = AllByRecursion (λ slot. IsNamed held slot.seq slot.chain) part
 
 -- what a pool keeps
-pub record IsPool (held : List Slot) (slots bytes sum : ℕ) : Type 0 where
+pub record IsPool (held : List Slot) (slots bytes sum next : ℕ) : Type 0 where
   pub rise : RiseFrom 0 held
   pub few : length held ≤ slots
   pub sum_is : sum ≡ bytes_of held
   pub small : bytes_of held ≤ bytes
+  pub below : AllByRecursion (λ slot. slot.seq < next) held
   pub named : AreNamed held held
 
 -- a stream's queue begins there

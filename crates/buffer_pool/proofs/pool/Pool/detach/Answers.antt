@@ -12,7 +12,7 @@ is_detached : (c : goal.After-new) → c.detach_from.new.held.items ≡ with_fro
 is_detached c = c.detach_from.ensures.items ∙ front_detached c.args.stream c.in_ok-from.from c.args.max c.self.inside.held.items c.index.result.now (subst (λ held. IsFrontAt c.args.stream held c.in_ok-from.from) c.deref.ensures.value c.in_ok-from.ensures.some) c.index.ensures
 
 pub invariant_of-self : goal.invariant_of-self
-invariant_of-self c = (rw (is_detached c) (alike_pool _ _ _ _ _ (alike_detached c.args.stream c.args.max c.self.inside.held.items) (front_named c.args.stream c.args.max c.self.inside.held.items c.requires.max c.self.invariant.0.rise c.self.invariant.0.named) c.self.invariant.0), omega (arith, c.self.invariant.1, c.detach_from.ensures.capacity))
+invariant_of-self c = (rw (is_detached c) (alike_pool _ _ _ _ _ _ (alike_detached c.args.stream c.args.max c.self.inside.held.items) (front_named c.args.stream c.args.max c.self.inside.held.items c.requires.max c.self.invariant.0.rise c.self.invariant.0.named) c.self.invariant.0), omega (arith, c.self.invariant.1, c.detach_from.ensures.capacity))
 
 pub returns-clause-queue : goal.returns-clause-queue
 returns-clause-queue c = rw (is_detached c) (subst (λ pool. queue_of c.args.stream (with_front_detached c.args.stream c.args.max c.self.inside.held.items) ≡ drop c.args.max (queue_of c.args.stream pool.held)) c.self.view_is (queue_left_behind c.args.stream c.args.max c.self.inside.held.items))
