@@ -162,6 +162,20 @@ impl Pool {
         })
     }
 
+    /// Of how many streams there are queues.
+    pub fn streams(&self) -> u32
+        ensures { result ≡ self.now.streams }
+    {
+        self.streams
+    }
+
+    /// A sequence above those of all records that were ever pushed.
+    pub fn next(&self) -> u64
+        ensures { result ≡ self.now.next }
+    {
+        self.next
+    }
+
     /// Puts a record behind its stream's queue; its sequence is above those of all records before. The line comes back exactly where no slot is free, or its bytes would
     /// pass the bound. It takes no memory.
     pub fn push(&mut self, stream: StreamNo, seq: u64, line: Bytes) -> Result<(), Bytes>
