@@ -1,6 +1,6 @@
 // Which lines are states, and what they hold.
 use crate::reading::{Want, fits, is_message, is_text, state_in};
-use airbyte_message::{Message, StateKind, StateMsg, read_message};
+use airbyte_message::{Message, StateKind, StateMsg};
 use basics::{Bytes, Copies, NoMemory, StreamId};
 use std::alloc::{AllocError, Global};
 use std::test::Fail;
@@ -99,19 +99,19 @@ fn states_hold_their_members(rt: HostRuntime) -> Result<(), Fail> {
     Ok(())
 }
 
-// The object of a copy of the state that a line is.
-fn object_of_copy(alloc: Global, line: &str) -> Result<Option<Bytes>, NoMemory> {
-    let message = read_message(alloc, line.as_bytes())?;
-    match message.as_ref().and_then(state_in) {
-        Some(state) => Ok(Some(state.copy(alloc)?.into_object().into_bytes())),
-        None => Ok(None),
-    }
+// A state whose copy has this object.
+#[derive(Drop)]
+struct Copied {
+    object: &'static str,
 }
 
-// Whether a copy of the state of this object has the object.
-fn copies(alloc: Global, object: &str) -> Result<bool, NoMemory> {
-    let line = format!(in alloc; r#"{{"type":"STATE","state":{object}}}"#)?;
-    Ok(is_text(&object_of_copy(alloc, line.as_str())?, Some(object)))
+impl Want for Copied {
+    fn holds(&self, alloc: Global, message: &Message) -> Result<bool, NoMemory> {
+        match state_in(message) {
+            Some(state) => Ok(state.copy(alloc)?.object().as_slice() == self.object.as_bytes()),
+            None => Ok(false),
+        }
+    }
 }
 
 #[test]
@@ -121,7 +121,11 @@ fn a_copy_of_a_state_has_its_object(rt: HostRuntime) -> Result<(), Fail> {
         r#"{"type":"GLOBAL","global":{"shared_state":{},"stream_states":[{"stream_descriptor":{"name":"a"}}]}}"#,
         r#"{"data":{"cursor":3}}"#,
     ] {
-        assert!(rt; copies(rt.alloc(), object)?, "of {object}");
+        let line = format!(in rt.alloc(); r#"{{"type":"STATE","state":{object}}}"#)?;
+        assert!(rt;
+            fits(rt.alloc(), line.as_str(), &Copied { object })?,
+            "of {object}"
+        );
     }
     Ok(())
 }
