@@ -59,7 +59,7 @@ fn a_desk_without_a_fault_says_all(rt: HostRuntime) -> Result<(), Fail> {
 }
 
 // Whether a run over the texts said all, or answered want of memory and said a front of it.
-fn says_a_front(alloc: Global) -> Result<bool, Fail> {
+fn says_a_front(alloc: Global) -> Result<bool, NoMemory> {
     let mut desk = desk_of(alloc, MESSAGES.as_bytes(), CATALOG.as_bytes(), 0)?;
     match run_over(alloc, &mut desk, LOCAL)? {
         Status::Ok => Ok(has_said(&desk, LINES)),

@@ -63,29 +63,44 @@ const KINDS: &[&str] = &[
     "Ended",
 ];
 
-// Whether these kinds of events happened, in this order, and no others.
-fn happened(events: &[Event], kinds: &[&str]) -> bool {
+// Whether these kinds of events happened in the world, in this order, and no others.
+fn happened(world: &PlainWorld, kinds: &[&str]) -> bool {
+    let events = world.events().as_slice();
     let mut pairs = events.iter().zip(kinds);
     events.len() == kinds.len() && pairs.all(|(event, kind)| kind_of(event) == *kind)
 }
 
-// Whether the event at this place saved this text.
-fn saved(events: &[Event], place: usize, text: &str) -> bool {
-    match events.get(place) {
+// Whether the event of the world at this place saved this text.
+fn saved(world: &PlainWorld, place: usize, text: &str) -> bool {
+    match world.events().as_slice().get(place) {
         Some(Event::Saved(found)) => found.as_slice() == text.as_bytes(),
         _ => false,
     }
 }
 
+// Whether the world has taken so many records.
+fn has_taken(world: &PlainWorld, records: u64) -> bool {
+    world.records() == records
+}
+
+// A world over this text of a stream.
+fn begin(alloc: Global, text: Bytes, stream: Name) -> Result<PlainWorld, NoMemory> {
+    PlainWorld::new(alloc, text, stream)
+}
+
 // A world over these messages of the stream `a`.
 fn world_of(alloc: Global, messages: &str) -> Result<PlainWorld, NoMemory> {
+    let stream = Name::copy_of(alloc, "a")?;
     let text = Bytes::copy_of(alloc, messages.as_bytes())?;
-    PlainWorld::new(alloc, text, Name::copy_of(alloc, "a")?)
+    begin(alloc, text, stream)
 }
 
 // Whether the next step takes a record.
 fn takes_a_record(world: &mut PlainWorld) -> Result<bool, NoMemory> {
-    Ok(matches!(world.step()?, Step::Record))
+    match world.step()? {
+        Step::Record => Ok(true),
+        _ => Ok(false),
+    }
 }
 
 // Whether the next step saves this state.
@@ -98,21 +113,34 @@ fn saves(world: &mut PlainWorld, object: &str) -> Result<bool, NoMemory> {
 
 // Whether no line is left.
 fn is_done(world: &mut PlainWorld) -> Result<bool, NoMemory> {
-    Ok(matches!(world.step()?, Step::Done))
+    match world.step()? {
+        Step::Done => Ok(true),
+        _ => Ok(false),
+    }
+}
+
+// Whether the world takes a record and saves a state, and then no line is left, once and for good.
+fn takes_both(world: &mut PlainWorld) -> Result<bool, NoMemory> {
+    let record = takes_a_record(world)?;
+    let state = saves(world, OBJECT)?;
+    let done = is_done(world)?;
+    let again = is_done(world)?;
+    Ok(record && state && done && again)
+}
+
+// Whether the store began without a state, and has the one that was saved.
+fn has_stored(world: &PlainWorld) -> bool {
+    saved(world, 1, EMPTY) && saved(world, 12, HELD)
 }
 
 #[test]
 fn a_world_keeps_its_events_in_order(rt: HostRuntime) -> Result<(), Fail> {
     let mut world = world_of(rt.alloc(), MESSAGES)?;
-    assert!(rt; takes_a_record(&mut world)?, "a record is taken");
-    assert!(rt; saves(&mut world, OBJECT)?, "a state is saved");
-    assert!(rt; is_done(&mut world)?, "it is over");
-    assert!(rt; is_done(&mut world)?, "it stays over");
-    assert_eq!(rt; world.records(), 1);
-    let events = world.events().as_slice();
-    assert!(rt; happened(events, KINDS));
-    assert!(rt; saved(events, 12, HELD), "the state is in the store");
-    assert!(rt; saved(events, 1, EMPTY), "the store begins without a state");
+    let steps = takes_both(&mut world)?;
+    assert!(rt; steps, "a record and a state are taken");
+    assert!(rt; has_taken(&world, 1), "one record");
+    assert!(rt; happened(&world, KINDS), "the events");
+    assert!(rt; has_stored(&world), "the states in the store");
     Ok(())
 }
 
@@ -138,26 +166,47 @@ fn a_line_that_is_no_message_is_read_and_not_given(rt: HostRuntime) -> Result<()
     Ok(())
 }
 
-#[test]
-fn no_link_fails_and_knows_nothing(rt: HostRuntime) -> Result<(), Fail> {
-    let alloc = rt.alloc();
-    let mut link = NoLink::new();
-    let plan = AttemptPlan {
+// Whether the store cannot be read nor written over this link.
+fn store_fails(alloc: Global, link: &mut NoLink) -> bool {
+    let loaded = matches!(link.load_states(alloc, "s"), Err(Fault::Failed));
+    let saved = matches!(link.save_states("s", b""), Err(Fault::Failed));
+    loaded && saved
+}
+
+// An attempt of the command `local`, without a catalog and without states.
+fn plan_of(alloc: Global) -> Result<AttemptPlan, NoMemory> {
+    Ok(AttemptPlan {
         number: 1,
         job: Job::Local,
         store: Name::copy_of(alloc, "s")?,
         catalog: Bytes::new(alloc),
         states: Bytes::new(alloc),
-    };
-    assert!(rt; matches!(link.load_states(alloc, "s"), Err(Fault::Failed)));
-    assert!(rt; matches!(link.save_states("s", b""), Err(Fault::Failed)));
-    assert!(rt; matches!(link.start(&plan), Err(Fault::Failed)));
-    assert!(rt; matches!(link.poll_source(), Polled::Failed));
-    assert!(rt; matches!(link.poll_dest(), Polled::Failed));
-    assert!(rt; matches!(link.offer_dest(b"x"), Offered::Failed));
-    assert!(rt; matches!(link.close_dest(), Err(Fault::Failed)));
+    })
+}
+
+// Whether no attempt can be started nor ended over this link.
+fn attempt_fails(alloc: Global, link: &mut NoLink) -> Result<bool, NoMemory> {
+    let started = matches!(link.start(&plan_of(alloc)?), Err(Fault::Failed));
+    let closed = matches!(link.close_dest(), Err(Fault::Failed));
+    let stopped = matches!(link.stop(), Err(Fault::Failed));
+    Ok(started && closed && stopped)
+}
+
+// Whether nothing comes and nothing goes over this link.
+fn pipes_fail(link: &mut NoLink) -> bool {
+    let source = matches!(link.poll_source(), Polled::Failed);
+    let dest = matches!(link.poll_dest(), Polled::Failed);
+    let offered = matches!(link.offer_dest(b"x"), Offered::Failed);
+    source && dest && offered
+}
+
+#[test]
+fn no_link_fails_and_knows_nothing(rt: HostRuntime) -> Result<(), Fail> {
+    let mut link = NoLink::new();
+    assert!(rt; store_fails(rt.alloc(), &mut link), "the store");
+    assert!(rt; attempt_fails(rt.alloc(), &mut link)?, "an attempt");
+    assert!(rt; pipes_fail(&mut link), "the pipes");
     assert!(rt; link.exit_codes().source.is_none());
-    assert!(rt; matches!(link.stop(), Err(Fault::Failed)));
     link.wait();
     Ok(())
 }
