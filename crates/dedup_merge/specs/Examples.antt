@@ -20,5 +20,5 @@ exceeded_row = row_with 1 (102 ∷ [])
 abbrev pub plan_a : StreamPlan
 plan_a = record { id = record { name = 97 ∷ []; namespace = None }; dedup = true; generation = 0; minimum = 0; hidden = false }
 
-abbrev pub judged_events : List Event
-judged_events = Opened 1 0 (plan_a ∷ []) ∷ Committed 0 (best_row ∷ exceeded_row ∷ []) ∷ []
+abbrev pub two_row_events : List Event
+two_row_events = Opened 1 0 (plan_a ∷ []) ∷ Committed 0 (best_row ∷ exceeded_row ∷ []) ∷ []
