@@ -1,5 +1,5 @@
 -- Two rows of one key, of which the first has the greater cursor.
-use Rattle.std.specs.Prelude.{ℕ, List, [], ◌∷◌, false, true, Option, None}
+use Rattle.std.specs.Prelude.{ℕ, List, [], ◌∷◌, false, true, None}
 use Rattle.outside.specs.declared.event.Event.{Event}
 use Rattle.outside.specs.declared.event.Event.TheVariants.{Opened, Committed}
 use Rattle.outside.specs.declared.event.RawRow.{RawRow}
