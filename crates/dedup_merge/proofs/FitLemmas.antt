@@ -1,28 +1,26 @@
 -- Which merges fit: those of pages do, behind events whose merges fit.
-use Rattle.std.proofs.Common.{◌≡◌, ◌⊎◌, inl, inr, ℕ, ◌<◌, ◌≤◌, ◌+◌, zero, suc, List, [], ◌∷◌, ◌++◌, map, filter, fold, take, length, Bool, true, false, cond, not, Option, None, Some, slice_get, slice_set, refl, sym, ◌∙◌, ap, subst, append_assoc, arith}
-use Rattle.std.specs.Prelude.{IfSome, IsSome, if◌then◌else◌}
+use Rattle.std.proofs.Common.{◌≡◌, ℕ, ◌≤◌, zero, suc, List, [], ◌∷◌, ◌++◌, map, filter, fold, take, Bool, true, false, Option, None, Some, refl, sym, ◌∙◌, ap, subst}
+use Rattle.std.specs.Prelude.{IsSome}
 use Rattle.std.specs.List.{AllByRecursion}
 use Rattle.std.proofs.lemmas.List.Sums.{fold-append}
 use Rattle.basics.specs.declared.stream.StreamId.{StreamId}
 use Rattle.outside.specs.declared.event.Event.{Event}
-use Rattle.outside.specs.declared.event.Event.TheVariants.{Opened, Took, TookEnd, Committed, Emitted, Merged, Shown, Started, ReadLine, ReadEnd, Given, Closed, Got, GotEnd, Saved, Ended}
+use Rattle.outside.specs.declared.event.Event.TheVariants.{Merged}
 use Rattle.outside.specs.declared.event.RawRow.{RawRow}
 use Rattle.outside.specs.declared.event.StreamPlan.{StreamPlan}
 use Rattle.outside.specs.declared.table.PlacedRow.{PlacedRow}
-use Rattle.outside.specs.declared.table.TableSide.{TableSide}
 use Rattle.outside.specs.declared.table.StreamTable.{StreamTable}
 use Rattle.outside.specs.declared.table.Tables.{Tables}
-use Rattle.outside.specs.Dock.{HasOwnIds, HasOtherId}
-use Rattle.outside.specs.Places.{IsUpTo, PlacesRise, RowsRise, TablesRise}
-use Rattle.outside.specs.Tables.{no_tables, tables_of, tables_after, tables_merged, tables_opened, tables_committed, tables_shown, table_in, changed, same_id, empty_side, empty_table, side_of, merged_table, merged_side, opened_stream, opened_table, opened_shown, opened_hidden, started_again, rises_above, is_kept_for, committed_table, placed_after, shown_table, shown_hidden, shown_plan, is_unmerged, last_place, page_for, page_of, plan_at, winners_for, winners_at, row_of}
+use Rattle.outside.specs.Places.{IsUpTo}
+use Rattle.outside.specs.Tables.{no_tables, tables_of, tables_after, tables_merged, table_in, side_of, is_unmerged, last_place, page_for, page_of, plan_at, winners_for, winners_at, row_of}
 use Rattle.outside.specs.Winners.{put_winners}
 use Rattle.outside.proofs.PlaceLaws.{all_filtered, rise_in, tables_rise}
-use Rattle.outside.proofs.TableLaws.{KeepsId, id_is, id_own, table_own, table_other}
+use Rattle.outside.proofs.TableLaws.{id_own}
 use Rattle.dedup_merge.specs.Winners.{AreWinnersOf, has_key}
-use Rattle.dedup_merge.specs.Merges.{MergedRows, none_merged, merged_on, rows_between, rows_opened, rows_merged, rows_shown, own_plan, plan_of, rows_after, Merging, merging_after, merging_of, merged_for, merged_at, mark_for, mark_at, unmerged_for, HasWinners, FitsMerge, Fits, MergesFit}
+use Rattle.dedup_merge.specs.Merges.{MergedRows, none_merged, merged_on, rows_between, rows_merged, own_plan, rows_after, Merging, merging_after, merging_of, merged_for, merged_at, mark_for, mark_at, unmerged_for, HasWinners, FitsMerge}
 use Rattle.dedup_merge.specs.Pages.{TakesIn}
 use Rattle.dedup_merge.proofs.JoinLemmas.{winners_on}
-use Rattle.dedup_merge.proofs.LeftLemmas.{page_between, plan_kept, winners_some, merged_id}
+use Rattle.dedup_merge.proofs.LeftLemmas.{page_between, plan_kept, winners_some}
 use Rattle.dedup_merge.proofs.StandLemmas.{page_keyed}
 
 -- One event more

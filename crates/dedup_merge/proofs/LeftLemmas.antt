@@ -1,7 +1,6 @@
 -- Which rows a merge of a page merged, and which it left.
-use Rattle.std.proofs.Common.{◌≡◌, ◌⊎◌, inl, inr, ℕ, ◌<◌, ◌≤◌, zero, suc, List, [], ◌∷◌, ◌++◌, map, filter, take, drop, length, Bool, true, false, cond, ◌&&◌, not, nat_lt, nat_le, Option, None, Some, slice_get, refl, sym, ◌∙◌, ap, subst, arith}
+use Rattle.std.proofs.Common.{◌≡◌, ℕ, ◌<◌, ◌≤◌, zero, suc, List, [], ◌∷◌, filter, take, drop, Bool, true, false, ◌&&◌, nat_lt, nat_le, Option, None, Some, refl, sym, ◌∙◌, ap, arith}
 use Rattle.std.specs.List.{AllByRecursion}
-use Rattle.std.specs.Str.{bytes_eq}
 use Rattle.std.proofs.lemmas.Bool.Decides.{nat_tests}
 use Rattle.outside.specs.declared.event.RawRow.{RawRow}
 use Rattle.outside.specs.declared.event.StreamPlan.{StreamPlan}
@@ -9,12 +8,12 @@ use Rattle.outside.specs.declared.load.Marks.{Marks}
 use Rattle.outside.specs.declared.table.PlacedRow.{PlacedRow}
 use Rattle.outside.specs.declared.table.StreamTable.{StreamTable}
 use Rattle.outside.specs.declared.table.Tables.{Tables}
-use Rattle.outside.specs.Places.{IsBehind, PlacesRise, RowsRise, TablesRise}
-use Rattle.outside.specs.Tables.{table_in, changed, side_of, with_side, merged_table, merged_side, tables_merged, plan_at, is_unmerged, takes_part, unmerged_in, last_place, page_for, page_of, winners_for, winners_at, row_of}
+use Rattle.outside.specs.Places.{IsBehind, PlacesRise, TablesRise}
+use Rattle.outside.specs.Tables.{table_in, side_of, merged_table, merged_side, tables_merged, plan_at, is_unmerged, takes_part, unmerged_in, last_place, page_for, page_of, winners_for}
 use Rattle.outside.specs.Winners.{put_winners}
 use Rattle.outside.proofs.PlaceLaws.{rise_filtered, rise_in}
 use Rattle.outside.proofs.TableLaws.{table_own}
-use Rattle.dedup_merge.specs.Merges.{unmerged_for, unmerged_at, parts_for, parts_at, mark_for, mark_at, is_between}
+use Rattle.dedup_merge.specs.Merges.{unmerged_for, unmerged_at, parts_for, mark_for, is_between}
 
 -- Tests
 

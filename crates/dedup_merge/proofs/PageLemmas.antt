@@ -1,12 +1,12 @@
 -- Reads of a dock one after another, and a page that is merged.
-use Rattle.std.proofs.Common.{◌≡◌, ◌⊎◌, inl, inr, ℕ, ◌+◌, ◌*◌, ◌<◌, ◌≤◌, ◌^◌, zero, suc, List, [], ◌∷◌, ◌++◌, take, drop, min, max, ◌-◌, length, get_or, nat_lt, Bool, true, false, length-drop, Option, None, Some, Err, refl, sym, ◌∙◌, ap, subst, arith}
+use Rattle.std.proofs.Common.{◌≡◌, inl, inr, ℕ, ◌+◌, ◌*◌, ◌<◌, ◌≤◌, zero, suc, List, [], ◌∷◌, ◌++◌, take, drop, length, get_or, nat_lt, true, false, length-drop, Option, None, Some, Err, refl, sym, ◌∙◌, ap, subst, arith}
 use Rattle.std.specs.Prelude.{IfSome, option_map, ◌≢◌}
 use Rattle.std.proofs.lemmas.List.{take_more}
-use Rattle.basics.specs.Told.{Rose, RoseIf, told_more}
+use Rattle.basics.specs.Told.{RoseIf, told_more}
 use Rattle.outside.specs.declared.dock.DockTally.{DockTally}
 use Rattle.outside.specs.declared.event.Event.{Event}
 use Rattle.outside.specs.declared.event.RawRow.{RawRow}
-use Rattle.outside.specs.Dock.{DockSeen, DockFace, dock_events, tables, ReadAtMost}
+use Rattle.outside.specs.Dock.{DockSeen, dock_events, tables, ReadAtMost}
 use Rattle.outside.specs.declared.event.Event.TheVariants.{Merged}
 use Rattle.outside.specs.declared.event.StreamPlan.{StreamPlan}
 use Rattle.outside.specs.declared.fault.Fault.{Fault}
@@ -33,11 +33,11 @@ use Rattle.dedup_merge.proofs.KeyLemmas.{count_capped, count_of_front}
 use Rattle.dedup_merge.proofs.StepLemmas.{takes_in}
 use Rattle.outside.proofs.DockLaws.{read_wider}
 use Rattle.outside.specs.Winners.{winner_in}
-use Rattle.outside.proofs.ToldLaws.{rose_later, rose_sooner}
+use Rattle.outside.proofs.ToldLaws.{rose_later}
 use Rattle.outside.proofs.DockLaws.{dock_grew_refl, dock_grew_trans, read_more}
-use Rattle.dedup_merge.specs.Winners.{KeysRise, keys_of, key_count}
-use Rattle.dedup_merge.specs.Steps.{TakesRow, TakesFrom, ReadsOnly, BestSoFar, KnowsKeys, side_of_store, reads_for, or_else}
-use Rattle.dedup_merge.proofs.StepLemmas.{still_rises, still_knows, still_best, reads_counted}
+use Rattle.dedup_merge.specs.Winners.{KeysRise, key_count}
+use Rattle.dedup_merge.specs.Steps.{TakesFrom, ReadsOnly, BestSoFar, KnowsKeys, side_of_store, reads_for, or_else}
+use Rattle.dedup_merge.proofs.StepLemmas.{still_best, reads_counted}
 
 pub only_refl : (a : DockSeen) → ReadsOnly a a
 only_refl a = record { grew = dock_grew_refl a; events = refl; face = refl; counts = refl }

@@ -1,13 +1,12 @@
 -- The same rows in another order have the same winners, where rows with the same load and sequence are the same.
-use Rattle.std.proofs.Common.{◌≡◌, ◌⊎◌, inl, inr, ℕ, zero, suc, ◌<◌, List, [], ◌∷◌, ◌++◌, map, filter, length, get_or, Bool, true, false, cond, Ordering, Less, Equal, Greater, Option, None, Some, nat_cmp, refl, sym, ◌∙◌, ap, subst, append_assoc, arith}
+use Rattle.std.proofs.Common.{◌≡◌, ◌⊎◌, inl, inr, ℕ, zero, suc, List, [], ◌∷◌, ◌++◌, map, filter, Bool, true, false, cond, Ordering, Less, Equal, Greater, Option, None, Some, nat_cmp, refl, sym, ◌∙◌, ap, subst, append_assoc, arith}
 use Rattle.std.specs.Prelude.{◌≢◌, Contains}
 use Rattle.std.specs.List.{AllByRecursion}
 use Rattle.std.specs.Ordering.{ordering_then, ordering_reverse}
 use Rattle.std.proofs.lemmas.List.{map-append}
 use Rattle.value_order.specs.Order.{order_of}
 use Rattle.outside.specs.declared.event.RawRow.{RawRow}
-use Rattle.outside.specs.Winners.{winner_in}
-use Rattle.dedup_merge.specs.Winners.{Candidate, candidate_row, rank, HasCursor, IsLess, IsNotMore, IsWinnerAmong, WinsAmong, AreWinnersOf, rows_of_key, is_of_key, has_key}
+use Rattle.dedup_merge.specs.Winners.{Candidate, candidate_row, rank, HasCursor, IsLess, IsNotMore, IsWinnerAmong, WinsAmong}
 use Rattle.dedup_merge.proofs.RankLemmas.{rank_total, less_not_more}
 use Rattle.dedup_merge.proofs.JoinLemmas.{one_candidate}
 

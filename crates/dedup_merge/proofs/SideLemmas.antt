@@ -1,19 +1,17 @@
 -- Behind events whose merges fit, the winners of each side are those of what was merged into it, and marks were given.
-use Rattle.std.proofs.Common.{◌≡◌, ◌⊎◌, inl, inr, ℕ, ◌<◌, ◌≤◌, ◌+◌, zero, suc, List, [], ◌∷◌, ◌++◌, fold, length, Bool, true, false, cond, Option, None, Some, refl, sym, ◌∙◌, ap, subst, append_assoc, arith}
-use Rattle.std.specs.Prelude.{IsSome}
+use Rattle.std.proofs.Common.{◌≡◌, ℕ, ◌≤◌, ◌+◌, List, [], ◌∷◌, ◌++◌, fold, length, Bool, true, false, cond, Option, None, Some, refl, sym, ◌∙◌, ap, subst, append_assoc, arith}
 use Rattle.std.specs.List.{AllByRecursion}
 use Rattle.std.proofs.lemmas.List.{append-nil}
 use Rattle.basics.specs.declared.stream.StreamId.{StreamId}
 use Rattle.outside.specs.declared.event.Event.{Event}
-use Rattle.outside.specs.declared.event.Event.TheVariants.{Opened, Took, TookEnd, Committed, Emitted, Merged, Shown, Started, ReadLine, ReadEnd, Given, Closed, Got, GotEnd, Saved, Ended}
+use Rattle.outside.specs.declared.event.Event.TheVariants.{Opened, Committed, Merged, Shown}
 use Rattle.outside.specs.declared.event.RawRow.{RawRow}
 use Rattle.outside.specs.declared.event.StreamPlan.{StreamPlan}
-use Rattle.outside.specs.declared.table.PlacedRow.{PlacedRow}
 use Rattle.outside.specs.declared.table.TableSide.{TableSide}
 use Rattle.outside.specs.declared.table.StreamTable.{StreamTable}
 use Rattle.outside.specs.declared.table.Tables.{Tables}
 use Rattle.outside.specs.Dock.{HasOwnIds, HasOtherId}
-use Rattle.outside.specs.Tables.{tables_of, tables_after, tables_opened, tables_committed, tables_merged, tables_shown, table_in, changed, same_id, empty_side, empty_table, side_of, merged_table, opened_stream, opened_table, opened_shown, opened_hidden, started_again, rises_above, is_kept_for, committed_table, placed_after, shown_table, shown_hidden, plan_at, winners_for, winners_at}
+use Rattle.outside.specs.Tables.{tables_of, tables_after, tables_committed, tables_merged, tables_shown, table_in, changed, same_id, empty_side, side_of, merged_table, opened_stream, opened_table, opened_shown, opened_hidden, started_again, rises_above, is_kept_for, committed_table, placed_after, shown_table, shown_hidden, plan_at, winners_for, winners_at}
 use Rattle.outside.proofs.TableLaws.{KeepsId, id_is, table_own, table_other}
 use Rattle.dedup_merge.specs.Winners.{AreWinnersOf}
 use Rattle.dedup_merge.specs.Merges.{MergedRows, merged_on, rows_opened, rows_merged, rows_shown, own_plan, plan_of, rows_after, merging_of, merged_for, merged_at, mark_for, mark_at, HasWinners, FitsMerge, Fits, MergesFit}

@@ -1,7 +1,6 @@
 -- A side stands with the rows that were merged into it, page by page.
-use Rattle.std.proofs.Common.{◌≡◌, ◌⊎◌, inl, inr, ℕ, ◌<◌, ◌≤◌, zero, suc, List, [], ◌∷◌, ◌++◌, map, filter, take, drop, length, Bool, true, false, ◌&&◌, not, nat_lt, Option, None, Some, refl, sym, ◌∙◌, ap, subst, arith}
-use Rattle.std.specs.Prelude.{Contains, IfSome, option_map}
-use Rattle.std.specs.Str.{bytes_eq}
+use Rattle.std.proofs.Common.{◌≡◌, ◌⊎◌, inl, inr, ℕ, ◌<◌, ◌≤◌, zero, suc, List, [], ◌∷◌, ◌++◌, map, filter, take, Bool, true, false, nat_lt, Option, None, Some, refl, sym, ◌∙◌, ap, subst, arith}
+use Rattle.std.specs.Prelude.{Contains}
 use Rattle.std.proofs.lemmas.Bool.Decides.{nat_tests}
 use Rattle.std.proofs.lemmas.List.{append-nil}
 use Rattle.std.proofs.lemmas.List.Elements.{Contains-append_left, Contains-append_right, Contains-append_cases}
@@ -9,9 +8,8 @@ use Rattle.outside.specs.declared.event.RawRow.{RawRow}
 use Rattle.outside.specs.declared.event.StreamPlan.{StreamPlan}
 use Rattle.outside.specs.declared.load.Marks.{Marks}
 use Rattle.outside.specs.declared.table.PlacedRow.{PlacedRow}
-use Rattle.outside.specs.declared.table.StreamTable.{StreamTable}
 use Rattle.outside.specs.declared.table.Tables.{Tables}
-use Rattle.outside.specs.Places.{PlacesRise, TablesRise}
+use Rattle.outside.specs.Places.{TablesRise}
 use Rattle.outside.specs.Tables.{table_in, side_of, tables_merged, plan_at, is_unmerged, takes_part, last_place, page_for, page_of, winners_for, winners_at, row_of}
 use Rattle.outside.specs.Winners.{put_winners, winner_in}
 use Rattle.outside.proofs.PlaceLaws.{rise_in}
@@ -20,7 +18,7 @@ use Rattle.dedup_merge.specs.Merges.{SideStands, HasOneOfAStamp, unmerged_for, u
 use Rattle.dedup_merge.specs.Pages.{TakesIn}
 use Rattle.dedup_merge.proofs.JoinLemmas.{winners_on}
 use Rattle.dedup_merge.proofs.SameRowLemmas.{Has, has_from, has_to, has_kept, has_passed, same_wins}
-use Rattle.dedup_merge.proofs.LeftLemmas.{lt_from, le_from, both_parts, page_between, plan_kept, winners_some, mark_some, parts_some}
+use Rattle.dedup_merge.proofs.LeftLemmas.{lt_from, le_from, both_parts, page_between, winners_some, mark_some, parts_some}
 
 -- Elements
 

@@ -1,5 +1,5 @@
 -- Two rows of one key, of which the first has the greater cursor.
-use Rattle.std.specs.Prelude.{ℕ, List, [], ◌∷◌, false, true, Option, None}
+use Rattle.std.specs.Prelude.{ℕ, List, [], ◌∷◌, false, true, None}
 use Rattle.outside.specs.declared.event.Event.{Event}
 use Rattle.outside.specs.declared.event.Event.TheVariants.{Opened, Committed}
 use Rattle.outside.specs.declared.event.RawRow.{RawRow}
@@ -20,5 +20,5 @@ exceeded_row = row_with 1 (102 ∷ [])
 abbrev pub plan_a : StreamPlan
 plan_a = record { id = record { name = 97 ∷ []; namespace = None }; dedup = true; generation = 0; minimum = 0; hidden = false }
 
-abbrev pub judged_events : List Event
-judged_events = Opened 1 0 (plan_a ∷ []) ∷ Committed 0 (best_row ∷ exceeded_row ∷ []) ∷ []
+abbrev pub two_row_events : List Event
+two_row_events = Opened 1 0 (plan_a ∷ []) ∷ Committed 0 (best_row ∷ exceeded_row ∷ []) ∷ []

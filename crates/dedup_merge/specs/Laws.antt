@@ -8,7 +8,7 @@ use Rattle.outside.specs.Tables.{tables_of, tables_after, winners_at, row_of}
 use Rattle.dedup_merge.specs.Winners.{AreWinnersOf}
 use Rattle.dedup_merge.specs.Merges.{SideStands, HasOneOfAStamp, HasWinners, MergesFit, FitsMerge, unmerged_at, parts_at, mark_at}
 use Rattle.dedup_merge.specs.Pages.{IsPageMerge}
-use Rattle.dedup_merge.specs.Examples.{judged_events, exceeded_row}
+use Rattle.dedup_merge.specs.Examples.{two_row_events, exceeded_row}
 
 -- Behind events whose merges fit, the winners of the load's side are those of all rows that were merged into it, and
 -- its mark is at most the number of committed rows.
@@ -42,4 +42,4 @@ PagesMergeAll = (store last : Tables) (stream : ℕ) (merged : List RawRow) (pag
 
 -- Of two rows of one key, the merge of the one that the other exceeds does not fit.
 abbrev pub ExceededRowDoesNotFit : Type 0
-ExceededRowDoesNotFit = FitsMerge judged_events 0 (exceeded_row ∷ []) 2 → ⊥
+ExceededRowDoesNotFit = FitsMerge two_row_events 0 (exceeded_row ∷ []) 2 → ⊥

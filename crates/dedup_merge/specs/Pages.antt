@@ -1,10 +1,10 @@
 -- What a merge of one page does.
-use Rattle.std.specs.Prelude.{◌≡◌, ◌≢◌, ◌⊎◌, ◌↔◌, ℕ, ◌+◌, ◌*◌, List, [], ◌∷◌, ◌++◌, map, length, drop, option_to_list, slice_set, Bool, true, false, Option, None, Some, IfSome, IsSome, Result, Ok, Err}
+use Rattle.std.specs.Prelude.{◌≡◌, ◌≢◌, ◌⊎◌, ℕ, ◌+◌, List, [], ◌∷◌, ◌++◌, map, length, drop, option_to_list, slice_set, Option, IfSome, IsSome, Result, Ok, Err}
 use Rattle.basics.specs.Told.{told_more}
 use Rattle.outside.specs.declared.event.Event.TheVariants as event
 use Rattle.outside.specs.declared.event.RawRow.{RawRow}
 use Rattle.outside.specs.declared.table.Tables.{Tables}
-use Rattle.outside.specs.Dock.{DockSeen, dock_events, tables, ReadAtMost}
+use Rattle.outside.specs.Dock.{DockSeen, dock_events, tables}
 use Rattle.outside.specs.declared.event.Event.{Event}
 use Rattle.outside.specs.Tables.{page_of, plan_at, winners_at, tables_after, tables_of, row_of}
 use Rattle.outside.specs.Winners.{put_winners, winner_in}
