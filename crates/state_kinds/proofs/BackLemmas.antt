@@ -132,11 +132,13 @@ no_other id kind.Legacy e = refl
 
 entry_written : (entry : SavedEntry) → IsWritableEntry entry → AreWritten 124 (entry_parts entry)
 entry_written entry h =
-    let small = h.generation in
-    (word_part 124 (codes "name") (quoted entry.id.name) refl (text_within 124 entry.id.name h.name),
-    optional_written 124 (codes "namespace") (option_map quoted entry.id.namespace) _ refl (optional_text_within 124 entry.id.namespace h.namespace)
-    (word_part 124 (codes "generation") (decimal entry.generation) refl (decimal_within 124 entry.generation (omega arith)),
-    (word_part 124 (codes "state") (held_text entry.state) refl (held_within (one entry.id) entry.state h.state), tt)))
+    let small = h.generation in (
+      word_part 124 (codes "name") (quoted entry.id.name) refl (text_within 124 entry.id.name h.name),
+      optional_written 124 (codes "namespace") (option_map quoted entry.id.namespace) _ refl (optional_text_within 124 entry.id.namespace h.namespace) (
+        word_part 124 (codes "generation") (decimal entry.generation) refl (decimal_within 124 entry.generation (omega arith)),
+        (word_part 124 (codes "state") (held_text entry.state) refl (held_within (one entry.id) entry.state h.state), tt),
+      ),
+    )
 
 -- what the names of an entry hold
 abbrev parts_of : List ℕ → Option (List ℕ) → List ℕ → List ℕ → List Part
@@ -267,10 +269,13 @@ store_parts set_is =
     named (codes "version") (decimal 1) ∷ named (codes "streams") (list_text (map entry_text set_is.entries)) ∷ named (codes "global") (held_text set_is.global) ∷ []
 
 store_written : (set_is : Saved) → IsWritable set_is → AreWritten 126 (store_parts set_is)
-store_written set_is h =
-    (word_part 126 (codes "version") (decimal 1) refl (decimal_within 126 1 (lit< tt)),
-    (word_part 126 (codes "streams") (list_text (map entry_text set_is.entries)) refl (list_read set_is h).value,
-    (word_part 126 (codes "global") (held_text set_is.global) refl (within_more 124 126 (held_text set_is.global) (lit≤ tt) (held_within all set_is.global h.global)), tt)))
+store_written set_is h = (
+  word_part 126 (codes "version") (decimal 1) refl (decimal_within 126 1 (lit< tt)),
+  (
+    word_part 126 (codes "streams") (list_text (map entry_text set_is.entries)) refl (list_read set_is h).value,
+    (word_part 126 (codes "global") (held_text set_is.global) refl (within_more 124 126 (held_text set_is.global) (lit≤ tt) (held_within all set_is.global h.global)), tt),
+  ),
+)
 
 version_last : (version streams global : List ℕ) → last_of (codes "version") (named (codes "version") version ∷ named (codes "streams") streams ∷ named (codes "global") global ∷ []) ≡ Some version
 unfolding escape_byte
@@ -348,9 +353,9 @@ back_sound set_is h =
     (none_large set_is.entries h.entries)
     (either_no (list_any (λ (e : StoredEntry). passes is_legacy_kind e.state) entries) (passes is_legacy_kind global) (none_pass (λ (e : StoredEntry). passes is_legacy_kind e.state) legacy_entry set_is.entries h.entries) (held_passes all set_is.global h.global is_legacy_kind (no_legacy all)))
     (either_no (is_some global && list_any (λ (e : StoredEntry). is_some e.state) entries) (list_any (λ (e : StoredEntry). passes is_global_kind e.state) entries || passes is_stream_kind global) (one_kind set_is h)
-      (either_no (list_any (λ (e : StoredEntry). passes is_global_kind e.state) entries) (passes is_stream_kind global) (none_pass (λ (e : StoredEntry). passes is_global_kind e.state) global_entry set_is.entries h.entries) (held_passes all set_is.global h.global is_stream_kind no_stream)))
+    (either_no (list_any (λ (e : StoredEntry). passes is_global_kind e.state) entries) (passes is_stream_kind global) (none_pass (λ (e : StoredEntry). passes is_global_kind e.state) global_entry set_is.entries h.entries) (held_passes all set_is.global h.global is_stream_kind no_stream)))
     (either_no (repeats_stream (stored_ids entries)) (list_any is_stray entries)
-      (ap repeats_stream (back_ids set_is.entries h.entries) ∙ distinct_once (entry_ids set_is.entries) h.saved.distinct) (none_pass is_stray stray_entry set_is.entries h.entries))
+    (ap repeats_stream (back_ids set_is.entries h.entries) ∙ distinct_once (entry_ids set_is.entries) h.saved.distinct) (none_pass is_stray stray_entry set_is.entries h.entries))
 
 abbrev saved_set : List SavedEntry → Option (List ℕ) → Saved
 saved_set entries global = record { entries = entries; global = global }
