@@ -137,7 +137,7 @@ state_type_is name state_types.Legacy (inr e) = ap state_named e
 
 -- ---- streams
 
-id_only : (text member : List ℕ) (id : StreamId) → IsStreamId text member id → IsOnly (IsStreamId text member) id
+pub id_only : (text member : List ℕ) (id : StreamId) → IsStreamId text member id → IsOnly (IsStreamId text member) id
 id_only text member id is = stream_id_answer text member id.name id.namespace (text_only text member id.name is.name) (optional_text_only text (codes "namespace") id.namespace is.namespace)
 
 descriptor_only : (text : List ℕ) (id : StreamId) → HasDescriptor text id → IsOnly (HasDescriptor text) id
@@ -211,7 +211,7 @@ kind_only state_types.Global text (kind.Global shared streams) is = global_answe
 kind_only state_types.Legacy text kind.Legacy is = legacy_answer text
 kind_only _ text _ is = absurd is
 
-state_only : (text : List ℕ) (content : State) → IsState text content → IsOnly (IsState text) content
+pub state_only : (text : List ℕ) (content : State) → IsState text content → IsOnly (IsState text) content
 state_only text content is = along_only (IsState text) (ap (λ (o : List ℕ). state_msg o content.kind content.source_count) (sym is.object)) (state_answer text is.nests.members is.type content.kind content.source_count is.line is.nests.object (state_type_only text is.type is.typed) (kind_only is.type text content.kind is.kind) (stats_only text content.source_count is.count))
 
 -- ---- traces

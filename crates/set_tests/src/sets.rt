@@ -54,12 +54,7 @@ fn list_of(alloc: Global, set: &SavedSet, catalog: &str) -> Result<Bytes, Catalo
 
 // The store's text, and the list for these streams, of a set that has begun, was given these states, and began again. What
 // was refused stands in front.
-fn told(
-    alloc: Global,
-    catalog: &str,
-    states: &[&str],
-    again: u64,
-) -> Result<Bytes, CatalogFault> {
+fn told(alloc: Global, catalog: &str, states: &[&str], again: u64) -> Result<Bytes, CatalogFault> {
     let mut set = SavedSet::new(alloc);
     let mut text = Bytes::new(alloc);
     begin(alloc, &mut set, catalog, 0)?;
@@ -151,11 +146,17 @@ fn listed_for(
 
 #[test]
 fn entries_of_other_streams_stay(rt: HostRuntime) -> Result<(), Fail> {
-    let Ok(text) = listed_for(rt.alloc(), TWO_STREAMS, (STATE_OF_NA, STATE_OF_B), ONE_STREAM)
-    else {
+    let Ok(text) = listed_for(
+        rt.alloc(),
+        TWO_STREAMS,
+        (STATE_OF_NA, STATE_OF_B),
+        ONE_STREAM,
+    ) else {
         return Err(Fail::from(NoMemory));
     };
-    assert_eq!(rt; text.as_slice(),
-        br#"[] [{"type":"STREAM","stream":{"stream_descriptor":{"name":"b"}}},{"type":"STREAM","stream":{"stream_descriptor":{"namespace":"n","name":"a"}}}]"#.as_slice());
+    assert_eq!(rt;
+        text.as_slice(),
+        br#"[] [{"type":"STREAM","stream":{"stream_descriptor":{"name":"b"}}},{"type":"STREAM","stream":{"stream_descriptor":{"namespace":"n","name":"a"}}}]"#.as_slice()
+    );
     Ok(())
 }

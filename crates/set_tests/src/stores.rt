@@ -68,7 +68,10 @@ fn a_store_has_its_first_fault(rt: HostRuntime) {
     for (text, want) in [
         (" ", Some(StateFault::NotJson)),
         ("[]", Some(StateFault::NotJson)),
-        (r#"{"version":2,"streams":[],"global":null}"#, Some(StateFault::NotJson)),
+        (
+            r#"{"version":2,"streams":[],"global":null}"#,
+            Some(StateFault::NotJson),
+        ),
         (r#"{"streams":[],"global":null}"#, Some(StateFault::NotJson)),
         (r#"{"version":1,"streams":[]}"#, Some(StateFault::NotJson)),
         (
@@ -124,7 +127,10 @@ fn an_array_of_states_has_its_states_or_its_first_fault(rt: HostRuntime) -> Resu
         ("", Some(StateFault::NotJson)),
         ("[null]", Some(StateFault::NotJson)),
         ("[]", None),
-        (r#"[{},{"type":"GLOBAL","global":{"stream_states":[]}}]"#, Some(StateFault::Legacy)),
+        (
+            r#"[{},{"type":"GLOBAL","global":{"stream_states":[]}}]"#,
+            Some(StateFault::Legacy),
+        ),
         (
             r#"[{"type":"STREAM","stream":{"stream_descriptor":{"name":"a"}}},{"type":"GLOBAL","global":{"stream_states":[]}},{"type":"GLOBAL","global":{"stream_states":[]}}]"#,
             Some(StateFault::Mixed),
@@ -141,11 +147,14 @@ fn an_array_of_states_has_its_states_or_its_first_fault(rt: HostRuntime) -> Resu
         let fault = list_fault(rt.alloc(), text);
         assert_eq!(rt; fault, want, "of {text}");
     }
-    let text = "[{\"type\":\"STREAM\",\n \"stream\":{\"stream_descriptor\":{\"name\":\"a\"}}}, {\"type\" : \"STREAM\",\"stream\":{\"stream_descriptor\":{\"name\":\"b\"}}}]";
+    let text =
+        "[{\"type\":\"STREAM\",\n \"stream\":{\"stream_descriptor\":{\"name\":\"a\"}}}, {\"type\" : \"STREAM\",\"stream\":{\"stream_descriptor\":{\"name\":\"b\"}}}]";
     let Ok(objects) = listed(rt.alloc(), text) else {
         return Err(Fail::from(NoMemory));
     };
-    assert_eq!(rt; objects.as_slice(),
-        br#"{"type":"STREAM","stream":{"stream_descriptor":{"name":"a"}}} {"type" : "STREAM","stream":{"stream_descriptor":{"name":"b"}}} "#.as_slice());
+    assert_eq!(rt;
+        objects.as_slice(),
+        br#"{"type":"STREAM","stream":{"stream_descriptor":{"name":"a"}}} {"type" : "STREAM","stream":{"stream_descriptor":{"name":"b"}}} "#.as_slice()
+    );
     Ok(())
 }

@@ -143,11 +143,11 @@ earlier_absent : (streams : List ConfStream) (gens : List Gen) (n : ℕ) (old in
 earlier_absent streams gens n old index entries stream distinct at h none = λ p there.
     let given = given_of streams gens in
     let new : (q : ℕ) → ¬ (slice_get (entry_ids entries) q ≡ Some stream.id) = λ q here.
-        (let r = added_back (take n given) old q stream.id (ap (λ (es : List SavedEntry). slice_get (entry_ids es) q) (sym h.entries) ∙ here) in
-        let s = taken_place given n r.0 (stream.id, r.1) r.2 in
-        let e : r.0 ≡ n = distinct r.0 n stream.id (given_back streams gens r.0 (stream.id, r.1) s.0) at in
-        let lt : r.0 < n = s.1 in
-        absurd (omega arith)) in
+    (let r = added_back (take n given) old q stream.id (ap (λ (es : List SavedEntry). slice_get (entry_ids es) q) (sym h.entries) ∙ here) in
+    let s = taken_place given n r.0 (stream.id, r.1) r.2 in
+    let e : r.0 ≡ n = distinct r.0 n stream.id (given_back streams gens r.0 (stream.id, r.1) s.0) at in
+    let lt : r.0 < n = s.1 in
+    absurd (omega arith)) in
     absent_append old (entry_ids entries) stream.id none new p (ap (λ (ids : List StreamId). slice_get ids p) (sym h.index) ∙ there)
 
 pub added_more : (streams : List ConfStream) (gens : List Gen) (n : ℕ) (old index now_index : List StreamId) (entries now : List SavedEntry) (stream : ConfStream) (gen : Gen) (id : StreamId) → slice_get streams n ≡ Some stream → slice_get gens n ≡ Some gen → id ≡ stream.id → ((p : ℕ) → ¬ (slice_get index p ≡ Some id)) → now_index ≡ index ++ id ∷ [] → now ≡ entries ++ new_entry (stream.id, gen.generation) ∷ [] → HasAdded (given_of streams gens) n old index entries → HasAdded (given_of streams gens) (n + 1) old now_index now
@@ -250,7 +250,7 @@ pub begun_kept : (given : Given) (set : Saved) (index now_index : List StreamId)
 begun_kept given set index now_index by_stream now_by_stream next global was distinct grew is all states =
     let more : List SavedEntry = added given (entry_ids set.entries) in
     let ids : now_index ≡ entry_ids next =
-        grew ∙ (ap (λ (i : List StreamId). i ++ entry_ids (added given i)) was.ids ∙ (ap (λ (i : List StreamId). i ++ entry_ids more) (sym (renewed_ids given set.entries)) ∙ (sym (ids_append (map (renewed given) set.entries) more) ∙ ap entry_ids (sym is)))) in
+    grew ∙ (ap (λ (i : List StreamId). i ++ entry_ids (added given i)) was.ids ∙ (ap (λ (i : List StreamId). i ++ entry_ids more) (sym (renewed_ids given set.entries)) ∙ (sym (ids_append (map (renewed given) set.entries) more) ∙ ap entry_ids (sym is)))) in
     record {
       ids = ids;
       by_stream = states;
@@ -278,7 +278,7 @@ renewed_more given i old now next read item generation lt reads same is changed 
     let within : i < length now = let m = h.many in omega arith in
     let read_is : read ≡ here = reads ∙ get_or_any now i read item within in
     let value : renewed_to item generation ≡ renewed given here =
-        ap (λ (e : SavedEntry). renewed_to e generation) same ∙ ap (λ (g : Option ℕ). renewed_to here g) (is ∙ ap (λ (e : SavedEntry). generation_of given e.id) read_is) in
+    ap (λ (e : SavedEntry). renewed_to e generation) same ∙ ap (λ (g : Option ℕ). renewed_to here g) (is ∙ ap (λ (e : SavedEntry). generation_of given e.id) read_is) in
     let set_is : next ≡ set now i (renewed given here) = changed ∙ ap (λ (e : SavedEntry). set now i e) value in
     record {
       is = map_step (renewed given) old now next i item lt h.is set_is;

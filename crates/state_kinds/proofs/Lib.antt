@@ -7,3 +7,4 @@ pub mod OnceLemmas
 pub mod FormLemmas
 pub mod StateListLemmas
 pub mod ReadLemmas
+pub mod BackLemmas

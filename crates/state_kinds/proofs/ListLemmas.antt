@@ -40,8 +40,8 @@ listed_item of ids id old is_first now_first text now (Some item) is adds h =
     let mark : List ℕ = cond (is_empty before) [] (44 ∷ []) in
     record {
       is = adds.1 ∙ (ap (λ (b : Bool). (text ++ cond b [] (44 ∷ [])) ++ item) h.first ∙ (ap (λ (t : List ℕ). (t ++ mark) ++ item) h.is
-        ∙ (append_assoc (old ++ open_list before) mark item ∙ (append_assoc old (open_list before) (mark ++ item)
-        ∙ (ap (λ (t : List ℕ). old ++ t) (open_more before item) ∙ ap (λ (l : List (List ℕ)). old ++ open_list l) (sym items))))));
+          ∙ (append_assoc (old ++ open_list before) mark item ∙ (append_assoc old (open_list before) (mark ++ item)
+          ∙ (ap (λ (t : List ℕ). old ++ t) (open_more before item) ∙ ap (λ (l : List (List ℕ)). old ++ open_list l) (sym items))))));
       first = adds.0 ∙ (sym (never_empty before item) ∙ ap is_empty (sym items));
     }
 

@@ -30,8 +30,8 @@ pub distinct_once : (ids : List StreamId) → AreDistinct ids → repeats_stream
 distinct_once [] d = refl
 distinct_once (id ∷ ids) d =
     let here : list_any (is_same_stream id) ids ≡ false = by_cases (list_any (is_same_stream id) ids)
-        (λ passed. let r = list_any-place (is_same_stream id) ids passed in let e : suc r.0 ≡ 0 = d (suc r.0) 0 id (r.2 ∙ ap (λ (x : StreamId). Some x) (sym ((Decides-stream id r.1).0 r.3))) refl in absurd (omega arith))
-        (λ failed. failed) in
+    (λ passed. let r = list_any-place (is_same_stream id) ids passed in let e : suc r.0 ≡ 0 = d (suc r.0) 0 id (r.2 ∙ ap (λ (x : StreamId). Some x) (sym ((Decides-stream id r.1).0 r.3))) refl in absurd (omega arith))
+    (λ failed. failed) in
     ap (λ (b : Bool). b || repeats_stream ids) here ∙ distinct_once ids (λ i j x p q. let e : suc i ≡ suc j = d (suc i) (suc j) x p q in omega arith)
 
 -- a stream that stands in front stands twice
@@ -39,14 +39,14 @@ pub repeats_front : (front : List StreamId) (id : StreamId) (more : List StreamI
 repeats_front [] id more there = absurd (let h : false ≡ true = there in cc)
 repeats_front (first ∷ front) id more there = by_cases (is_same_stream id first)
     (λ same.
-        let e : first ≡ id = sym ((Decides-stream id first).0 same) in
-        let back : is_same_stream first id ≡ true = (Decides-stream first id).1 e in
-        let any : list_any (is_same_stream first) (front ++ id ∷ more) ≡ true =
-            list_any-append (is_same_stream first) front (id ∷ more) ∙ (ap (λ (b : Bool). list_any (is_same_stream first) front || (b || list_any (is_same_stream first) more)) back ∙ or_true (list_any (is_same_stream first) front)) in
-        ap (λ (b : Bool). b || repeats_stream (front ++ id ∷ more)) any)
+    let e : first ≡ id = sym ((Decides-stream id first).0 same) in
+    let back : is_same_stream first id ≡ true = (Decides-stream first id).1 e in
+    let any : list_any (is_same_stream first) (front ++ id ∷ more) ≡ true =
+    list_any-append (is_same_stream first) front (id ∷ more) ∙ (ap (λ (b : Bool). list_any (is_same_stream first) front || (b || list_any (is_same_stream first) more)) back ∙ or_true (list_any (is_same_stream first) front)) in
+    ap (λ (b : Bool). b || repeats_stream (front ++ id ∷ more)) any)
     (λ other.
-        let rest : has_stream front id ≡ true = sym (ap (λ (b : Bool). b || has_stream front id) other) ∙ there in
-        ap (λ (b : Bool). list_any (is_same_stream first) (front ++ id ∷ more) || b) (repeats_front front id more rest) ∙ or_true (list_any (is_same_stream first) (front ++ id ∷ more)))
+    let rest : has_stream front id ≡ true = sym (ap (λ (b : Bool). b || has_stream front id) other) ∙ there in
+    ap (λ (b : Bool). list_any (is_same_stream first) (front ++ id ∷ more) || b) (repeats_front front id more rest) ∙ or_true (list_any (is_same_stream first) (front ++ id ∷ more)))
   where
     or_true : (b : Bool) → (b || true) ≡ true
     or_true true = refl
@@ -122,7 +122,7 @@ found_there {A} of xs n x None index now at is adds h = absurd (let e : false �
 found_there {A} of xs n x (Some id) index now at is adds h =
     let rest : List A = drop (n + 1) xs in
     let all : filter_map of xs ≡ filter_map of (take n xs) ++ id ∷ filter_map of rest =
-        ap (λ (ys : List A). filter_map of ys) (split_at xs n x at) ∙ (filter_map-append of (take n xs) (x ∷ rest) ∙ (ap (λ (ids : List StreamId). filter_map of (take n xs) ++ ids) (first_found x rest (sym is)))) in
+    ap (λ (ys : List A). filter_map of ys) (split_at xs n x at) ∙ (filter_map-append of (take n xs) (x ∷ rest) ∙ (ap (λ (ids : List StreamId). filter_map of (take n xs) ++ ids) (first_found x rest (sym is)))) in
     ap repeats_stream all ∙ indexed_there (filter_map of (take n xs)) index now id (filter_map of rest) adds h
   where
     first_found : (y : A) (ys : List A) → of y ≡ Some id → filter_map of (y ∷ ys) ≡ id ∷ filter_map of ys

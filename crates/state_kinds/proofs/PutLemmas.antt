@@ -68,7 +68,7 @@ put_kept set_is index b place id object entry k none at is =
     let entries = set_is.entries in
     let here = entry_read entries index place id entry k.ids at is in
     let ids : entry_ids entries ≡ entry_ids (set entries place (stated entry object)) =
-        sym (stated_ids id object entries) ∙ ap entry_ids (put_at entries index place id object entry (indexed set_is index b k) at here) in
+    sym (stated_ids id object entries) ∙ ap entry_ids (put_at entries index place id object entry (indexed set_is index b k) at here) in
     record {
       ids = k.ids ∙ ids;
       by_stream = sym (set_states entries place entry object here);

@@ -45,13 +45,13 @@ pub record HasCounted (states : List State) (i count : ℕ) : Type 0 where
 pub counted_more : (states : List State) (i : ℕ) (item : State) (count here now : ℕ) → i < length states → item ≡ get_or states i item → here ≡ cond (is_global_kind item.kind) 1 0 → now ≡ count + here → HasCounted states i count → HasCounted states (i + 1) now
 counted_more states i item count here now lt at is grew h = by_cases (is_global_kind item.kind)
     (λ e.
-        let one : here ≡ 1 = is ∙ ap (λ (b : Bool). cond b 1 0) e in
-        let more = count_by_more_yes (λ (s : State). is_global_kind s.kind) states i item lt (ap (λ (s : State). is_global_kind s.kind) (sym at) ∙ e) in
-        record { is = grew ∙ (ap (λ (n : ℕ). count + n) one ∙ (ap (λ (n : ℕ). n + 1) h.is ∙ sym more)); few = let f = h.few in omega arith })
+    let one : here ≡ 1 = is ∙ ap (λ (b : Bool). cond b 1 0) e in
+    let more = count_by_more_yes (λ (s : State). is_global_kind s.kind) states i item lt (ap (λ (s : State). is_global_kind s.kind) (sym at) ∙ e) in
+    record { is = grew ∙ (ap (λ (n : ℕ). count + n) one ∙ (ap (λ (n : ℕ). n + 1) h.is ∙ sym more)); few = let f = h.few in omega arith })
     (λ e.
-        let none : here ≡ 0 = is ∙ ap (λ (b : Bool). cond b 1 0) e in
-        let same = count_by_more_no (λ (s : State). is_global_kind s.kind) states i item lt (ap (λ (s : State). is_global_kind s.kind) (sym at) ∙ e) in
-        record { is = (let g : now ≡ count = omega arith in g) ∙ (h.is ∙ sym same); few = let f = h.few in omega arith })
+    let none : here ≡ 0 = is ∙ ap (λ (b : Bool). cond b 1 0) e in
+    let same = count_by_more_no (λ (s : State). is_global_kind s.kind) states i item lt (ap (λ (s : State). is_global_kind s.kind) (sym at) ∙ e) in
+    record { is = (let g : now ≡ count = omega arith in g) ∙ (h.is ∙ sym same); few = let f = h.few in omega arith })
 
 pub counted_first : (states : List State) → HasCounted states 0 0
 counted_first states = record { is = refl; few = omega arith }

@@ -1,7 +1,8 @@
 -- Which sets read back from the text that is written of them.
-use Rattle.std.specs.Prelude.{◌≡◌, ℕ, ◌≤◌, List, Option, None, Some, All, IsUtf8, Ok}
+use Rattle.std.specs.Prelude.{◌≡◌, ℕ, ◌≤◌, List, [], ◌∷◌, Option, None, Some, IsUtf8, Ok}
 use Rattle.json_span.specs.Members.{IsValue}
 use Rattle.json_fields.specs.Answer.{IsOnly}
+use Rattle.json_write.specs.Values.{IsOptionalUtf8}
 use Rattle.basics.specs.declared.limits.TheConstants.{GREATEST_GENERATION}
 use Rattle.basics.specs.declared.stream.StreamId.{StreamId}
 use Rattle.airbyte_message.specs.Lanes.{Lane, one, all, lane_of}
@@ -23,19 +24,19 @@ abbrev pub IsOptionalObject : Lane → Option (List ℕ) → Type 0
 IsOptionalObject lane None = Unit {0}
 IsOptionalObject lane (Some object) = IsObjectOfLane lane object
 
-abbrev pub IsOptionalUtf8 : Option (List ℕ) → Type 0
-IsOptionalUtf8 None = Unit {0}
-IsOptionalUtf8 (Some text) = IsUtf8 text
-
 pub record IsWritableEntry (entry : SavedEntry) : Type 0 where
   pub name : IsUtf8 entry.id.name
   pub namespace : IsOptionalUtf8 entry.id.namespace
   pub generation : entry.generation ≤ GREATEST_GENERATION
   pub state : IsOptionalObject (one entry.id) entry.state
 
+abbrev pub AreWritable : List SavedEntry → Type 0
+AreWritable [] = Unit {0}
+AreWritable (entry ∷ entries) = IsWritableEntry entry × AreWritable entries
+
 pub record IsWritable (set : Saved) : Type 0 where
   pub saved : IsSaved set
-  pub entries : All IsWritableEntry set.entries
+  pub entries : AreWritable set.entries
   pub global : IsOptionalObject all set.global
 
 -- A set whose states have the forms of their lanes reads back.

@@ -167,12 +167,7 @@ fn renew_entry(entry: &mut SavedEntry, given: Option<u64>)
 }
 
 /// Gives the first `count` entries the generations of their streams, where these are given one.
-pub fn renew(
-    entries: &mut Vec<SavedEntry>,
-    count: usize,
-    configured: &Configured,
-    gens: &GenList,
-)
+pub fn renew(entries: &mut Vec<SavedEntry>, count: usize, configured: &Configured, gens: &GenList)
     requires count { count ≤ length entries.old.items }
     requires gens { length gens.now ≡ length configured.now }
     ensures { entries.new.items ≡ map (renewed (given_of configured.now gens.now)) (take count entries.old.items) ++ drop count entries.old.items }

@@ -115,11 +115,7 @@ fn entries_of(alloc: Global, list: &[u8]) -> Result<Option<Sequence<StoredEntry>
 }
 
 // What the members of a store's text say, whatever its version.
-fn parts_of(
-    alloc: Global,
-    text: &[u8],
-    members: &MemberList,
-) -> Result<Option<Stored>, NoMemory>
+fn parts_of(alloc: Global, text: &[u8], members: &MemberList) -> Result<Option<Stored>, NoMemory>
     requires { IsCut text.now members.now }
     ensures { IfOk result (IsAnswer (AreStoredParts text.now)) }
 {

@@ -5,6 +5,7 @@
 mod begin;
 mod entry;
 mod form;
+mod laws;
 mod once;
 mod read;
 mod set;
@@ -13,6 +14,7 @@ mod stored;
 mod write;
 
 pub use entry::SavedEntry;
+pub use laws::sets_read_back;
 pub use read::read_store;
 pub use set::SavedSet;
 pub use states::{StateList, read_list};

@@ -175,10 +175,7 @@ fn saved_entry(entry: StoredEntry) -> SavedEntry
 }
 
 // What is saved of these entries.
-fn saved_entries(
-    alloc: Global,
-    entries: Sequence<StoredEntry>,
-) -> Result<Vec<SavedEntry>, NoMemory>
+fn saved_entries(alloc: Global, entries: Sequence<StoredEntry>) -> Result<Vec<SavedEntry>, NoMemory>
     ensures { IfOk result (λ saved. saved.items ≡ map saved_of entries) }
 {
     let mut saved = Vec::with_capacity(alloc, entries.len())?;

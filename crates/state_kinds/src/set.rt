@@ -102,7 +102,12 @@ impl SavedSet {
     /// An attempt begins: each configured stream gets its generation, one for each in the catalog's order. Where that differs
     /// from the one that the set had, or the set did not have the stream, the stream's state is dropped, and so is a state of
     /// all streams. Entries of other streams stay. Without memory nothing changes.
-    pub fn begin(&mut self, alloc: Global, configured: &Configured, gens: &GenList) -> Result<(), NoMemory>
+    pub fn begin(
+        &mut self,
+        alloc: Global,
+        configured: &Configured,
+        gens: &GenList,
+    ) -> Result<(), NoMemory>
         requires { length gens.now ≡ length configured.now }
         ensures ok { OnOk result (self.new ≡ begun (given_of configured.now gens.now) self.old) }
         ensures err { OnErr result (self.new ≡ self.old) }

@@ -111,11 +111,7 @@ fn put_states(text: &mut Bytes, set: &SavedSet, configured: &Configured) -> Resu
 
 /// Writes the array of states that a source of these streams is started with: the state of all streams alone, or else the
 /// states of the configured streams, in the catalog's order. Streams outside the catalog are left out.
-pub fn write_list(
-    alloc: Global,
-    set: &SavedSet,
-    configured: &Configured,
-) -> Result<Bytes, NoMemory>
+pub fn write_list(alloc: Global, set: &SavedSet, configured: &Configured) -> Result<Bytes, NoMemory>
     ensures { IfOk result (λ text. text ≡ states_text set.now (ids_of configured.now)) }
 {
     match set.global() {

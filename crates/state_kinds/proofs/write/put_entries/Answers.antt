@@ -19,7 +19,7 @@ loop-i-preserved c =
     let mark = cond (nat_eq i 0) [] (44 ∷ []) in
     let entry = c.index-entries-i.result in
     let put : c.put_entry.new.text ≡ c.loop-i.text ++ (mark ++ entry_text entry) =
-        c.in_ok-put_entry.ensures ∙ (ap (λ (t : List ℕ). t ++ entry_text entry) c.in_ok-put_comma.ensures.ok ∙ append_assoc c.loop-i.text mark (entry_text entry)) in
+    c.in_ok-put_entry.ensures ∙ (ap (λ (t : List ℕ). t ++ entry_text entry) c.in_ok-put_comma.ensures.ok ∙ append_assoc c.loop-i.text mark (entry_text entry)) in
     list_step entry_text entries i entry c.args.text.now c.loop-i.text c.put_entry.new.text c.loop-i-test.true c.loop-i.invariant (put ∙ ap (λ (e : SavedEntry). c.loop-i.text ++ (mark ++ entry_text e)) c.index-entries-i.is)
 
 pub returns : goal.returns

@@ -11,7 +11,7 @@ entry_text entry = object_text (entry_parts entry)
 pub returns : goal.returns
 returns c =
     let version : c.put_number_member.new.text ≡ 123 ∷ part_before (named (codes "version") (decimal 1)) [] =
-        c.in_ok-put_number_member.ensures.ok ∙ ap (λ (t : List ℕ). t ++ 123 ∷ part_before (named (codes "version") (decimal 1)) []) c.new-text.ensures in
+    c.in_ok-put_number_member.ensures.ok ∙ ap (λ (t : List ℕ). t ++ 123 ∷ part_before (named (codes "version") (decimal 1)) []) c.new-text.ensures in
     let held = c.in_ok-put_held.ensures ∙ ap (λ (o : Option (List ℕ)). c.put_entries.new.text ++ 44 ∷ part_before (named (codes "global") (held_text o)) []) c.global.ensures in
     store_closes c.args.set.now (list_text (map entry_text c.entries.result.now)) c.put_number_member.new.text c.put_key.new.text c.put_entries.new.text c.put_held.new.text c.push.new.self
     (ap (λ (es : List SavedEntry). list_text (map entry_text es)) c.entries.ensures.entries)
