@@ -31,9 +31,15 @@ use Rattle.batch_prep.specs.Places.{AreDataMembers, AreFound, IsFirst, IsHeldAt}
 key_behind : (body : List ℕ) (columns : List Column) (paths : List (List (List ℕ))) (path : List (List ℕ)) (key : List ℕ) (value : Value) → IsKeyText body columns paths key → HasValue body path (is_instant_path columns path) value → IsKeyText body columns (paths ++ path ∷ []) (key ++ (text_of value ++ 59 ∷ []))
 key_behind body columns [] path key value is has = (value, has, ([], refl, ap (λ (k : List ℕ). k ++ (text_of value ++ 59 ∷ [])) is))
 key_behind body columns (p ∷ paths) path key value is has =
-    let rest = is.2.0 in
-    (is.0, is.1, (rest ++ (text_of value ++ 59 ∷ []), key_behind body columns paths path rest value is.2.1 has,
-      ap (λ (k : List ℕ). k ++ (text_of value ++ 59 ∷ [])) is.2.2 ∙ append_assoc (text_of is.0) (59 ∷ rest) (text_of value ++ 59 ∷ [])))
+    let rest = is.2.0 in (
+      is.0,
+      is.1,
+      (
+        rest ++ (text_of value ++ 59 ∷ []),
+        key_behind body columns paths path rest value is.2.1 has,
+        ap (λ (k : List ℕ). k ++ (text_of value ++ 59 ∷ [])) is.2.2 ∙ append_assoc (text_of is.0) (59 ∷ rest) (text_of value ++ 59 ∷ []),
+      ),
+    )
 
 pub key_more : (body : List ℕ) (columns : List Column) (paths : List (List (List ℕ))) (i : ℕ) (d : List (List ℕ)) (key text new : List ℕ) (value : Value) → i < length paths → IsKeyText body columns (take i paths) key → HasValue body (slice_index_or paths i d) (is_instant_path columns (slice_index_or paths i d)) value → text ≡ key ++ text_of value → new ≡ text ++ 59 ∷ [] → IsKeyText body columns (take (i + 1) paths) new
 key_more body columns paths i d key text new value lt is has et en =

@@ -99,14 +99,7 @@ fn rows_of(alloc: Global, item: &WorkItem) -> Result<RawRowList, NoMemory>
     let mut finder = Finder::new(alloc);
     let mut rows = RawRowList::with_capacity(alloc, item.lines.len())?;
     for line in item.lines.as_slice() {
-        let row = line_row(
-            alloc,
-            &item.plan,
-            &layout,
-            &mut reader,
-            &mut finder,
-            line,
-        )?;
+        let row = line_row(alloc, &item.plan, &layout, &mut reader, &mut finder, line)?;
         keep(&mut rows, row)?;
     }
     Ok(rows)

@@ -74,7 +74,7 @@ pub fn columns_text(
     requires found { AreFound body.now layout.now.names finder.now.levels.outer finder.now.places.items }
     ensures { IfOk result (λ text. (came : List (List ℕ)) → AreOpen came changes.old → HasColumns body.now plan.now.columns came text changes.new) }
 {
-    let mut text = Bytes::new(alloc);
+    let mut text = Bytes::with_capacity(alloc, body.len())?;
     text.push(b'{')?;
     for (i, column) in plan.columns.as_slice().iter().enumerate() {
         let slot = *layout.slots.at(i);

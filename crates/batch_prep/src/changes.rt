@@ -23,11 +23,14 @@ pub struct Changes {
     pub is_first: bool,
 }
 
+// The bytes of `{"changes":[]}`.
+const NO_CHANGES: usize = 14;
+
 /// No change stands there yet.
 pub fn no_changes(alloc: Global) -> Result<Changes, NoMemory>
     ensures { IfOk result (AreOpen []) }
 {
-    let mut text = Bytes::new(alloc);
+    let mut text = Bytes::with_capacity(alloc, NO_CHANGES)?;
     put_key(&mut text, b'{', "changes")?;
     text.push(b'[')?;
     Ok(Changes {
@@ -59,7 +62,12 @@ impl Changes {
         put_comma(&mut self.text, self.is_first)?;
         put_member(&mut self.text, b'{', "field", label)?;
         put_member(&mut self.text, b',', "change", b"\"NULLED\"")?;
-        put_member(&mut self.text, b',', "reason", b"\"DESTINATION_TYPECAST_ERROR\"")?;
+        put_member(
+            &mut self.text,
+            b',',
+            "reason",
+            b"\"DESTINATION_TYPECAST_ERROR\"",
+        )?;
         self.text.push(b'}')?;
         self.is_first = false;
         Ok(())

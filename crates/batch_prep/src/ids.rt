@@ -12,11 +12,14 @@ const NAMESPACE: [u8; 16] = [
     0xa1, 0xb2, 0xc3, 0xd4, 0, 0, 0x40, 0, 0x80, 0, 0, 0, 0, 0, 0, 1,
 ];
 
+// Two numbers of at most 20 digits, and a colon.
+const LONGEST_NAME: usize = 41;
+
 // Both numbers, with a colon between them.
 fn name_of(alloc: Global, load: u64, seq: u64) -> Result<Bytes, NoMemory>
     ensures { IfOk result (λ name. name ≡ row_name load seq) }
 {
-    let mut name = Bytes::new(alloc);
+    let mut name = Bytes::with_capacity(alloc, LONGEST_NAME)?;
     put_number(&mut name, load)?;
     name.push(b':')?;
     put_number(&mut name, seq)?;

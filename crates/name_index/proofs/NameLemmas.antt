@@ -57,7 +57,7 @@ passes name (key ∷ keys) from found e = by_cases (is name key)
       at = ap (λ (x : List ℕ). Some x) (sym ((bytes_eq-Decides name (string_bytes key)).0 passed));
     })
     (λ failed. let r = passes name keys (from + 1) found (sym (ap (λ (b : Bool). cond b (Some from) (position_from (is name) (from + 1) keys)) failed) ∙ e) in
-        record { offset = suc r.offset; is_at = let h = r.is_at in omega arith; at = r.at })
+    record { offset = suc r.offset; is_at = let h = r.is_at in omega arith; at = r.at })
 
 place_at : (name : List ℕ) (keys : List Text) (found : ℕ) → position (is name) keys ≡ Some found → slice_get (held keys) found ≡ Some name
 place_at name keys found e =

@@ -6,9 +6,11 @@ use outside::{RawRow, SeqLine, SeqLineList};
 use std::alloc::Global;
 use std::test::Fail;
 
-const ITEMS: &str = r#"{"type":"object","properties":{"id":{"type":"integer"},"v":{"type":"number"}}}"#;
+const ITEMS: &str =
+    r#"{"type":"object","properties":{"id":{"type":"integer"},"v":{"type":"number"}}}"#;
 
-const USERS: &str = r#"{"properties":{"id":{"type":"integer"},"name":{"type":["null","string"]},"updated_at":{"type":["null","string"],"format":"date-time"}}}"#;
+const USERS: &str =
+    r#"{"properties":{"id":{"type":"integer"},"name":{"type":["null","string"]},"updated_at":{"type":["null","string"],"format":"date-time"}}}"#;
 
 // The path of one name; an empty name is no path.
 fn path_of(alloc: Global, name: &str) -> Result<Option<Path>, NoMemory> {
