@@ -1,4 +1,7 @@
 // Desks in memory with two texts, and words that ask for them.
+ghost use Rattle.std.specs.Prelude.{◌≡◌, ◌==◌, if◌then◌else◌, List, ℕ, [], ◌∷◌, IfOk, codes, string_bytes, map};
+ghost use Rattle.outside_mem.specs.MemDesk.{begun};
+
 use outside::{Bytes, FailList, Name, NoLink, NoMemory, Status};
 use outside_mem::{MemDesk, NamedText, NamedTextList};
 use std::alloc::{AllocError, Global};
@@ -11,7 +14,9 @@ pub const CATALOG: &str =
 /// Words that ask for the two texts of the desk.
 pub const LOCAL: &[&str] = &["local", "--messages", "m", "--catalog", "c"];
 
-fn named(alloc: Global, name: &str, text: &[u8]) -> Result<NamedText, NoMemory> {
+fn named(alloc: Global, name: &str, text: &[u8]) -> Result<NamedText, NoMemory>
+    ensures { IfOk result (λ made. made ≡ record { name = name.now; text = text.now }) }
+{
     Ok(NamedText {
         name: Name::copy_of(alloc, name)?,
         text: Bytes::copy_of(alloc, text)?,
@@ -19,7 +24,9 @@ fn named(alloc: Global, name: &str, text: &[u8]) -> Result<NamedText, NoMemory> 
 }
 
 // The number of a call, if it is not 0.
-fn fails_of(alloc: Global, failing: u64) -> Result<FailList, NoMemory> {
+fn fails_of(alloc: Global, failing: u64) -> Result<FailList, NoMemory>
+    ensures { IfOk result (λ fails. fails ≡ (if failing == 0 then [] else failing ∷ [])) }
+{
     let mut fails = FailList::new(alloc);
     if failing != 0 {
         fails.push(failing)?;
@@ -33,7 +40,9 @@ pub fn desk_of(
     messages: &[u8],
     catalog: &[u8],
     failing: u64,
-) -> Result<MemDesk, NoMemory> {
+) -> Result<MemDesk, NoMemory>
+    ensures { IfOk result (λ desk. desk ≡ begun (record { name = codes "m"; text = messages.now } ∷ record { name = codes "c"; text = catalog.now } ∷ []) (if failing == 0 then [] else failing ∷ [])) }
+{
     let mut texts = NamedTextList::new(alloc);
     texts.push(named(alloc, "m", messages)?)?;
     texts.push(named(alloc, "c", catalog)?)?;
