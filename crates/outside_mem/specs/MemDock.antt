@@ -1,5 +1,5 @@
 -- A dock in memory: what it holds, and what a call adds.
-use Rattle.std.specs.Prelude.{◌≡◌, ℕ, ◌+◌, ◌-◌, ◌^◌, ◌≤◌, min, List, [], ◌∷◌, ◌++◌, map, Bool, if◌then◌else◌, Contains, Option, None, Some}
+use Rattle.std.specs.Prelude.{◌≡◌, ℕ, ◌+◌, ◌-◌, ◌^◌, ◌≤◌, min, List, [], ◌∷◌, ◌++◌, map, Bool, if◌then◌else◌, Contains, Option, Some}
 use Rattle.outside.specs.Link.{Told}
 use Rattle.outside.specs.Hand.{Hand, HandPolls, fresh_hand}
 use Rattle.outside.specs.Dock.{DockSeen, DockFace, event_of, took_over, took_over_after, IsWithinLimit}

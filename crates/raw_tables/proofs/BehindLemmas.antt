@@ -1,5 +1,5 @@
 -- The rows behind a mark, where places rise.
-use Rattle.std.proofs.Common.{◌≡◌, ℕ, ◌<◌, ◌≤◌, zero, suc, List, [], ◌∷◌, ◌++◌, filter, take, drop, length, get_or, Bool, true, false, ◌&&◌, nat_le, nat_lt, refl, sym, ◌∙◌, ap, arith}
+use Rattle.std.proofs.Common.{◌≡◌, ℕ, ◌<◌, ◌≤◌, zero, suc, List, [], ◌∷◌, ◌++◌, filter, take, drop, length, get_or, Bool, true, false, nat_le, nat_lt, refl, sym, ◌∙◌, ap, arith}
 use Rattle.std.specs.List.{AllByRecursion}
 use Rattle.std.proofs.lemmas.Bool.Decides.{nat_tests}
 use Rattle.std.proofs.lemmas.List.{take-append-drop}
@@ -7,7 +7,7 @@ use Rattle.outside.specs.declared.event.StreamPlan.{StreamPlan}
 use Rattle.outside.specs.declared.load.Marks.{Marks}
 use Rattle.outside.specs.declared.table.PlacedRow.{PlacedRow}
 use Rattle.outside.specs.Places.{IsUpTo, IsBehind, PlacesRise}
-use Rattle.outside.specs.Tables.{is_unmerged, takes_part}
+use Rattle.outside.specs.Tables.{is_unmerged}
 use Rattle.raw_tables.proofs.PageLemmas.{filter_both}
 
 abbrev pub stands_up_to : ℕ → PlacedRow → Bool

@@ -1,7 +1,6 @@
 -- What is known of every page of a store.
-use Rattle.std.proofs.Common.{◌≡◌, ℕ, ◌<◌, ◌≤◌, ◌^◌, zero, suc, List, [], ◌∷◌, map, filter, take, length, Bool, true, false, cond, ◌&&◌, not, nat_lt, Option, None, Some, slice_get, slice_index, refl, sym, ◌∙◌, ap, subst, arith}
+use Rattle.std.proofs.Common.{◌≡◌, ℕ, ◌<◌, ◌≤◌, ◌^◌, zero, suc, List, [], ◌∷◌, map, filter, take, length, Bool, true, false, cond, ◌&&◌, nat_lt, Option, Some, slice_get, slice_index, refl, sym, ap, subst, arith}
 use Rattle.std.specs.List.{AllByRecursion}
-use Rattle.std.specs.Str.{bytes_eq}
 use Rattle.std.proofs.lemmas.Bool.Decides.{nat_tests}
 use Rattle.outside.specs.declared.event.StreamPlan.{StreamPlan}
 use Rattle.outside.specs.declared.load.Marks.{Marks}

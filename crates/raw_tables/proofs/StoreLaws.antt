@@ -1,5 +1,5 @@
 -- Each event keeps what holds of a store.
-use Rattle.std.proofs.Common.{◌≡◌, ℕ, ◌+◌, ◌<◌, ◌≤◌, ◌^◌, zero, suc, List, [], ◌∷◌, ◌++◌, filter, fold, set, length, Bool, true, false, cond, subst, Option, None, Some, slice_get, refl, sym, ◌∙◌, ap, arith}
+use Rattle.std.proofs.Common.{◌≡◌, ℕ, ◌+◌, ◌<◌, ◌≤◌, ◌^◌, zero, suc, List, [], ◌∷◌, ◌++◌, fold, set, length, Bool, true, false, cond, subst, Option, None, Some, slice_get, refl, ◌∙◌, ap, arith}
 use Rattle.std.specs.List.{AllByRecursion}
 use Rattle.std.proofs.lemmas.List.Sums.{fold-append}
 use Rattle.basics.specs.declared.stream.StreamId.{StreamId}
@@ -15,7 +15,7 @@ use Rattle.outside.specs.Dock.{HasOwnIds, HasOtherId, IsPlace, took_over, took_o
 use Rattle.outside.proofs.ToldLaws.{all_both, all_map}
 use Rattle.outside.specs.Places.{IsUpTo}
 use Rattle.outside.proofs.PlaceLaws.{all_filtered, all_placed}
-use Rattle.raw_tables.specs.Store.{TableFits, TablesFit, IsStore}
+use Rattle.raw_tables.specs.Store.{TableFits, TablesFit}
 use Rattle.raw_tables.proofs.TableLaws.{marks_set, marks_kept, marks_shown}
 
 pub tables_more : (events : List Event) (event : Event) → tables_of (events ++ event ∷ []) ≡ tables_after (tables_of events) event

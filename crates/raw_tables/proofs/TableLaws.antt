@@ -1,12 +1,12 @@
 -- What a change of one stream's table does to the marks of the load's sides.
-use Rattle.std.proofs.Common.{◌≡◌, ℕ, zero, suc, List, [], ◌∷◌, map, set, Bool, true, false, ◌⊎◌, inl, inr, subst, Some, slice_get, refl, sym, ◌∙◌, ap}
+use Rattle.std.proofs.Common.{◌≡◌, ℕ, zero, suc, List, [], ◌∷◌, map, set, Bool, true, false, ◌⊎◌, inl, inr, subst, Some, slice_get, refl, ◌∙◌, ap}
 use Rattle.std.specs.List.{AllByRecursion}
 use Rattle.basics.specs.declared.stream.StreamId.{StreamId}
 use Rattle.outside.specs.declared.event.StreamPlan.{StreamPlan}
 use Rattle.outside.specs.declared.table.StreamTable.{StreamTable}
 use Rattle.outside.specs.Tables.{same_id, table_in, changed, side_of, shown_plan, shown_table}
 use Rattle.outside.specs.Dock.{HasOtherId, HasOwnIds}
-use Rattle.outside.proofs.TableLaws.{KeepsId, id_is, id_own, id_apart, table_own, table_other}
+use Rattle.outside.proofs.TableLaws.{KeepsId, id_is, id_apart, table_own, table_other}
 
 -- a table is changed, or stays
 table_either : (change : StreamTable → StreamTable) (id other : StreamId) (tables : List StreamTable) → KeepsId change → (table_in (changed change id tables) other ≡ change (table_in tables other)) ⊎ (table_in (changed change id tables) other ≡ table_in tables other)

@@ -1,5 +1,4 @@
-use Rattle.std.proofs.Common.{◌≡◌, List, filter, arith, ap, sym, ◌∙◌}
-use Rattle.outside.specs.declared.table.PlacedRow.{PlacedRow}
+use Rattle.std.proofs.Common.{filter, arith, ap, sym, ◌∙◌}
 use Rattle.outside.specs.declared.table.TableSide.{TableSide}
 use Rattle.outside.specs.Tables.{is_unmerged}
 use Rattle.raw_tables.proofs.PageLemmas.{page_full, page_behind}
