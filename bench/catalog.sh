@@ -1,6 +1,7 @@
 #!/usr/bin/env bash
-# Times read_configured over catalogs of 64, 512 and 4,096 streams of 2 KB each, beside the cut of the same text, and how
-# many streams are found by their ids in a second.
+# Times read_configured over catalogs of 64, 512 and 4,096 streams of 2 KB each, beside the cut of the same text into its
+# members (one pass), and into these and the elements of its array (two passes), and how many streams are found by their
+# ids in a second. Where valgrind is there, instructions a byte too, which a busy machine does not change.
 #
 # usage: bench/catalog.sh
 #
@@ -62,13 +63,31 @@ best() {
     done | sort -n | head -n 1 | awk -v r="$3" '{ printf "%.0f", $1 / r }'
 }
 
-printf '%8s %8s %10s %10s %10s %10s %10s %14s\n' streams MB 'cut ms' 'cut MB/s' 'read ms' 'read MB/s' 'read/cut' 'finds/s'
+# each CALL FILE BYTES: the instructions of a round, by byte
+each() {
+    if ! command -v valgrind >/dev/null; then
+        echo -
+        return
+    fi
+    for count in 1 2; do
+        valgrind --tool=callgrind --callgrind-out-file=/dev/null "$program" "$1" "$2" "$count" 2>&1 >/dev/null |
+            awk '/Collected/ { print $NF }'
+    done | awk -v b="$3" 'NR == 1 { once = $1 } NR == 2 { printf "%.1f", ($1 - once) / b }'
+}
+
+row='%8s %6s %9s %9s %9s %9s %10s %9s %11s %12s %9s %9s\n'
+# shellcheck disable=SC2059
+printf "$row" streams MB 'cut ms' 'cut MB/s' 'both ms' 'read ms' 'read MB/s' read/cut read/both finds/s 'cut i/B' 'read i/B'
 for count in "${counts[@]}"; do
     file=$folder/$count
     most=$((rounds * 4096 / count))
     cut=$(best members "$file" "$most")
+    both=$(best elements "$file" "$most")
     read=$(best read "$file" "$most")
     find=$(best find "$file" $((most * 20)))
-    awk -v n="$count" -v b="$(wc -c < "$file")" -v c="$cut" -v r="$read" -v f="$find" \
-        'BEGIN { printf "%8d %8.2f %10.3f %10.0f %10.3f %10.0f %10.2f %14.0f\n", n, b / 1e6, c / 1e6, b * 1000 / c, r / 1e6, b * 1000 / r, r / c, n * 1e9 / f }'
+    bytes=$(wc -c < "$file")
+    awk -v row="$row" -v n="$count" -v b="$bytes" -v i="$(each members "$file" "$bytes")" -v j="$(each read "$file" "$bytes")" -v c="$cut" -v e="$both" -v r="$read" -v f="$find" 'BEGIN {
+        printf row, n, sprintf("%.2f", b / 1e6), sprintf("%.3f", c / 1e6), sprintf("%.0f", b * 1000 / c), sprintf("%.3f", e / 1e6),
+            sprintf("%.3f", r / 1e6), sprintf("%.0f", b * 1000 / r), sprintf("%.2f", r / c), sprintf("%.2f", r / e), sprintf("%.0f", n * 1e9 / f), i, j
+    }'
 done

@@ -1,5 +1,5 @@
 -- A message in place, from the members of its line.
-use Rattle.std.proofs.Common.{◌≡◌, ℕ, List, Option, None, Some, refl, codes}
+use Rattle.std.proofs.Common.{◌≡◌, ℕ, List, Option, None, refl, codes}
 use Rattle.std.specs.Option.{option_map}
 use Rattle.json_span.specs.Members.{IsSomeObject}
 use Rattle.json_fields.specs.Answer.{IsAnswer, IsOnly}
