@@ -1,6 +1,5 @@
 -- The last member of each name, noted from the last member on.
-use Rattle.std.proofs.Common.{arith, ◌≡◌, ◌≢◌, ◌<◌, ◌≤◌, ◌+◌, ℕ, zero, suc, inl, inr, List, [], ◌∷◌, ◌++◌, Option, None, Some, All, length, take, drop, slice_get, slice_set, slice_index_or, get_or, refl, sym, ◌∙◌, ap, subst, add-one, drop-cons, Bool, true, false, nat_eq}
-use Rattle.std.specs.Option.{option_copied}
+use Rattle.std.proofs.Common.{arith, ◌≡◌, ◌≢◌, ◌<◌, ◌≤◌, ◌+◌, ℕ, zero, suc, inl, inr, List, [], ◌∷◌, Option, None, Some, All, length, drop, slice_get, slice_set, slice_index_or, get_or, refl, sym, ◌∙◌, ap, subst, add-one, drop-cons}
 use Rattle.std.specs.List.{IsDistinct}
 use Rattle.std.specs.Str.{bytes_eq}
 use Rattle.std.proofs.lemmas.Option.{slice_get-get_or, slice_get_read, slice_get_within}
@@ -8,14 +7,13 @@ use Rattle.std.proofs.lemmas.List.{drop_all}
 use Rattle.json_scalar.specs.Text.{IsString}
 use Rattle.json_span.specs.Members.{AreMembers, HasOnlyMembers, IsDeeper, IsMemberOf, IsNoObject, text_at}
 use Rattle.json_span.specs.declared.Member.{Member}
-use Rattle.json_fields.specs.Answer.{IsAnswer, IsOnly}
-use Rattle.json_fields.specs.Fields.{HasField, Holds, IsCut, line_depth}
+use Rattle.json_fields.specs.Answer.{IsAnswer}
+use Rattle.json_fields.specs.Fields.{HasField, Holds, line_depth}
 use Rattle.json_fields.proofs.FieldLemmas.{field_answer}
 use Rattle.json_fields.proofs.Keys.{get_at, only_holds, string_only}
-use Rattle.column_types.specs.Values.{IsData}
 use Rattle.name_index.proofs.NameLemmas.{one_place}
 use Rattle.batch_prep.specs.Places.{AreDataMembers, AreFound, AreHeldFrom, AreUnknown, IsHeldAt, IsHeldFrom, IsSlotOf, noted, noted_over}
-use Rattle.batch_prep.proofs.PlaceLemmas.{None-Some, Some-None, Some-injective}
+use Rattle.batch_prep.proofs.PlaceLemmas.{None-Some, Some-injective}
 
 -- ---- places in lists
 

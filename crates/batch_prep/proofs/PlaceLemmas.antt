@@ -1,5 +1,5 @@
 -- Places of names: they stay as names grow, and grow with columns and paths.
-use Rattle.std.proofs.Common.{arith, ◌≡◌, ◌≢◌, ◌<◌, ◌≤◌, ◌+◌, ℕ, zero, suc, inl, inr, ◌⊎◌, IfSome, IfNone, List, [], ◌∷◌, ◌++◌, Option, None, Some, length, take, slice_get, slice_set, slice_index_or, refl, sym, ◌∙◌, ap, subst}
+use Rattle.std.proofs.Common.{arith, ◌≡◌, ◌<◌, ◌≤◌, ◌+◌, ℕ, zero, suc, inl, inr, ◌⊎◌, IfSome, IfNone, List, [], ◌∷◌, ◌++◌, Option, None, Some, length, take, slice_get, slice_index_or, refl, sym, ◌∙◌, ap, subst}
 use Rattle.json.specs.Print.{quoted}
 use Rattle.json_scalar.specs.Text.{IsString}
 use Rattle.json_fields.specs.Answer.{IsOnly}

@@ -1,5 +1,5 @@
 -- Keys, rows, and the rows of lines.
-use Rattle.std.proofs.Common.{arith, ◌≡◌, ◌<◌, ◌≤◌, ◌+◌, ◌-◌, ℕ, zero, suc, inl, inr, List, [], ◌∷◌, ◌++◌, Option, None, Some, Bool, length, take, drop, slice_get, slice_index_or, refl, sym, ◌∙◌, ap, subst, append_assoc, append-nil, option_to_list}
+use Rattle.std.proofs.Common.{arith, ◌≡◌, ◌<◌, ◌≤◌, ◌+◌, ◌-◌, ℕ, inl, inr, List, [], ◌∷◌, ◌++◌, Option, None, Some, Bool, length, take, drop, slice_get, slice_index_or, refl, sym, ◌∙◌, ap, subst, append_assoc, append-nil}
 use Rattle.std.proofs.lemmas.List.{take_more, take_all}
 use Rattle.value_order.specs.Texts.{text_of}
 use Rattle.value_order.specs.declared.value.Value.{Value}
@@ -9,13 +9,12 @@ use Rattle.json_fields.specs.Answer.{IsAnswer, IsOnly}
 use Rattle.airbyte_message.specs.Messages.{IsMessage}
 use Rattle.airbyte_message.specs.declared.message.Message.{Message}
 use Rattle.airbyte_message.specs.declared.message.Message.TheVariants as message
-use Rattle.airbyte_message.specs.declared.message.RecordMsg.{RecordMsg}
 use Rattle.outside.specs.declared.event.RawRow.{RawRow}
 use Rattle.outside.specs.declared.line.SeqLine.{SeqLine}
 use Rattle.json_fields.specs.Fields.{HasField}
 use Rattle.column_types.specs.Columns.{is_instant_path}
 use Rattle.column_types.specs.Rows.{IsKeyText, IsRow, RowParts}
-use Rattle.column_types.specs.Values.{HasValue, IsData, Reaches}
+use Rattle.column_types.specs.Values.{HasValue}
 use Rattle.column_types.specs.Words.{IsValueAlong}
 use Rattle.column_types.specs.declared.column.Column.{Column}
 use Rattle.column_types.proofs.ValueLemmas.{root_field}
@@ -23,8 +22,8 @@ use Rattle.std.specs.Option.{option_copied}
 use Rattle.batch_prep.specs.declared.item.PrepPlan.{PrepPlan}
 use Rattle.batch_prep.specs.declared.row.Content.{Content}
 use Rattle.batch_prep.specs.Contents.{HasNoContent, IsContentOf, content_parts}
-use Rattle.batch_prep.specs.Items.{AddsRow, AreRows, IsRecordLine, row_parts}
-use Rattle.batch_prep.specs.Places.{AreDataMembers, AreFound, IsFirst, IsHeldAt}
+use Rattle.batch_prep.specs.Items.{AddsRow, AreRows, row_parts}
+use Rattle.batch_prep.specs.Places.{AreDataMembers, IsFirst, IsHeldAt}
 
 -- ---- keys
 

@@ -1,5 +1,5 @@
 -- Changes of which the array is open, and objects whose columns are being written.
-use Rattle.std.proofs.Common.{arith, ◌≡◌, ◌<◌, ◌≤◌, ◌+◌, ℕ, zero, suc, inl, inr, List, [], ◌∷◌, ◌++◌, map, codes, Option, None, Some, Bool, true, false, cond, nat_eq, length, take, slice_get, slice_index_or, refl, sym, ◌∙◌, ap, subst, append_assoc, append-nil}
+use Rattle.std.proofs.Common.{arith, ◌≡◌, ◌<◌, ◌≤◌, ◌+◌, ℕ, zero, suc, inl, inr, List, [], ◌∷◌, ◌++◌, map, codes, Option, None, Some, Bool, true, false, cond, nat_eq, length, take, slice_index_or, refl, sym, ◌∙◌, ap, subst, append_assoc, append-nil}
 use Rattle.std.proofs.lemmas.Bool.{ne_eqb}
 use Rattle.std.proofs.lemmas.List.{take_more, take_all}
 use Rattle.json.specs.Print.{quoted}
@@ -10,7 +10,7 @@ use Rattle.json_span.specs.Elements.{AreElements}
 use Rattle.json_span.specs.declared.Span.{Span}
 use Rattle.json_fields.specs.Answer.{IsAnswer, IsOnly}
 use Rattle.json_fields.specs.Fields.{HasField, line_depth}
-use Rattle.column_types.specs.Rows.{AreCells, CameWith, HasChanges, IsCell, cell_parts, cell_text, change_text, columns_text, meta_text, own_changes}
+use Rattle.column_types.specs.Rows.{AreCells, IsCell, cell_parts, cell_text, change_text, meta_text, own_changes}
 use Rattle.column_types.specs.Typed.{IsTyped}
 use Rattle.column_types.specs.declared.kind.ColumnType.{ColumnType}
 use Rattle.column_types.specs.declared.column.Column.{Column}

@@ -1,8 +1,8 @@
 -- For private clauses: where the names of a plan are looked for in a record's data, and where they stand there.
-use Rattle.std.specs.Prelude.{◌≡◌, ◌⊎◌, ℕ, List, [], ◌∷◌, Option, None, Some, Bool, All, length, slice_get, slice_set, drop}
+use Rattle.std.specs.Prelude.{◌≡◌, ◌⊎◌, ℕ, List, [], ◌∷◌, Option, None, Some, All, length, slice_get, slice_set, drop}
 use Rattle.json.specs.Print.{quoted}
 use Rattle.json_scalar.specs.Text.{IsString}
-use Rattle.json_span.specs.Members.{IsMemberOf, IsValue, text_at}
+use Rattle.json_span.specs.Members.{IsMemberOf, text_at}
 use Rattle.json_span.specs.declared.Member.{Member}
 use Rattle.json_fields.specs.Answer.{IsAnswer}
 use Rattle.json_fields.specs.Fields.{HasField, Holds, IsCut}

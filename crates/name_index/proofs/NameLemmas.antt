@@ -1,5 +1,5 @@
 -- Names and the strings that hold them: places, growth, and that each stands once.
-use Rattle.std.proofs.Common.{arith, ◌≡◌, ◌+◌, ℕ, zero, suc, List, [], ◌∷◌, ◌++◌, map, Option, None, Some, slice_get, Bool, true, false, cond, not, refl, sym, ◌∙◌, ap, subst, ◌||◌, position, IfSome, IfNone, is_some, string_bytes, String}
+use Rattle.std.proofs.Common.{arith, ◌≡◌, ◌+◌, ℕ, zero, suc, List, [], ◌∷◌, ◌++◌, map, Option, None, Some, slice_get, Bool, true, false, cond, refl, sym, ◌∙◌, ap, subst, ◌||◌, position, IfSome, IfNone, is_some, string_bytes, String}
 use Rattle.std.proofs.Common.{Global}
 use Rattle.std.specs.List.{AllByRecursion, IsDistinct, list_any, position_from}
 use Rattle.std.specs.Str.{bytes_eq}

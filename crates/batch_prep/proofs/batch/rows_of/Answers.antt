@@ -1,4 +1,4 @@
-use Rattle.std.proofs.Common.{[], List, subst, option_to_list, ◌++◌}
+use Rattle.std.proofs.Common.{[], subst, option_to_list, ◌++◌}
 use Rattle.outside.specs.declared.line.SeqLine.{SeqLine}
 use Rattle.batch_prep.specs.Items.{AddsRow}
 use Rattle.batch_prep.proofs.RowLemmas.{rows_more}

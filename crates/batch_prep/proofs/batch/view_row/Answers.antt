@@ -1,6 +1,4 @@
-use Rattle.std.proofs.Common.{ap, subst}
 use Rattle.airbyte_message.specs.Views.{message_at}
-use Rattle.batch_prep.specs.Contents.{IsContentOf}
 use Rattle.batch_prep.proofs.RowLemmas.{adds_none, adds_row}
 use Rattle.batch_prep.proofs.batch.view_row.Goals as goal
 

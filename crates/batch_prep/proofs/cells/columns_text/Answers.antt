@@ -1,7 +1,6 @@
-use Rattle.std.proofs.Common.{arith, List, ℕ, ◌<◌, ◌≡◌, ◌∙◌, ◌++◌, length, sym, ap, subst, slice_get, slice_index_or, Some}
+use Rattle.std.proofs.Common.{arith, List, ◌≡◌, ◌∙◌, length, sym, ap, subst, slice_index_or}
 use Rattle.std.specs.Option.{option_copied}
-use Rattle.std.proofs.lemmas.Option.{slice_get-get_or, slice_get_within}
-use Rattle.json.specs.Print.{quoted}
+use Rattle.std.proofs.lemmas.Option.{slice_get_within}
 use Rattle.column_types.specs.declared.column.Column.{Column}
 use Rattle.batch_prep.specs.Places.{AreSlots}
 use Rattle.batch_prep.specs.Written.{HasColumns, PutsCell}

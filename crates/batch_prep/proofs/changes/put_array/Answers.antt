@@ -1,4 +1,4 @@
-use Rattle.batch_prep.proofs.WrittenLemmas.{came_array, came_no_array}
+use Rattle.batch_prep.proofs.WrittenLemmas.{came_no_array}
 use Rattle.batch_prep.proofs.changes.put_array.Goals as goal
 
 pub returns-in-None : goal.returns-in-None

@@ -1,4 +1,4 @@
-use Rattle.std.proofs.Common.{List, ℕ, map, take}
+use Rattle.std.proofs.Common.{map, take}
 use Rattle.json_span.specs.Members.{text_at}
 use Rattle.json_span.specs.declared.Span.{Span}
 use Rattle.batch_prep.proofs.WrittenLemmas.{elements_more}

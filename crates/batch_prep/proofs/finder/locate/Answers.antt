@@ -1,4 +1,4 @@
-use Rattle.std.proofs.Common.{arith, ◌<◌, ◌≡◌, ◌+◌, ◌-◌, List, ℕ, Option, length, subst}
+use Rattle.std.proofs.Common.{arith, ◌<◌, ◌≡◌, ◌+◌, ◌-◌, ℕ, Option, length, subst}
 use Rattle.json_span.specs.declared.Member.{Member}
 use Rattle.batch_prep.specs.Places.{AreHeldFrom, IsSlotOf}
 use Rattle.batch_prep.proofs.FoundLemmas.{step_none, step_some}

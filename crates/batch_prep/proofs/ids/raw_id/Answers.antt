@@ -1,11 +1,11 @@
-use Rattle.std.proofs.Common.{List, ℕ, ap, sym, ◌∙◌, ◌++◌, ◌≡◌, take}
+use Rattle.std.proofs.Common.{List, ℕ, ap, ◌∙◌, ◌++◌, ◌≡◌, take}
 use Rattle.std.proofs.lemmas.Result.{IfOk-weaker}
 use Rattle.sha1.specs.Sha1.{sha1}
 use Rattle.uuid.specs.Parts.{with_variant, with_version}
 use Rattle.uuid.specs.Text.{hyphenated_text, lower}
 use Rattle.uuid.specs.declared.Variant.TheVariants as variants
 use Rattle.uuid.specs.declared.Version.TheVariants as versions
-use Rattle.column_types.specs.RawId.{raw_id_text, row_name, row_namespace}
+use Rattle.column_types.specs.RawId.{row_namespace}
 use Rattle.batch_prep.proofs.ids.raw_id.Goals as goal
 
 abbrev id_of : List ℕ → List ℕ

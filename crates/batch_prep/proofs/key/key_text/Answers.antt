@@ -1,7 +1,6 @@
-use Rattle.std.proofs.Common.{arith, List, ℕ, ◌<◌, ◌≡◌, ◌∙◌, length, sym, ap, subst, slice_index_or, Bool}
-use Rattle.column_types.specs.Columns.{is_instant_path}
+use Rattle.std.proofs.Common.{arith, List, ℕ, ◌≡◌, length, sym, ap, subst, slice_index_or, Bool}
 use Rattle.column_types.specs.Values.{HasValue}
-use Rattle.batch_prep.specs.Places.{AreStarts, IsFirst, IsStart}
+use Rattle.batch_prep.specs.Places.{AreStarts, IsFirst}
 use Rattle.batch_prep.proofs.PlaceLemmas.{start_at, starts_long}
 use Rattle.batch_prep.proofs.RowLemmas.{key_more}
 use Rattle.batch_prep.proofs.key.key_text.Goals as goal

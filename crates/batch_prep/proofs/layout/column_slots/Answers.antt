@@ -1,4 +1,4 @@
-use Rattle.std.proofs.Common.{ap, sym, ◌∙◌, List, ℕ, Some, slice_get, subst}
+use Rattle.std.proofs.Common.{ap, ◌∙◌, List, ℕ, Some}
 use Rattle.batch_prep.proofs.PlaceLemmas.{kept_along, kept_grown, slots_kept, slots_more}
 use Rattle.batch_prep.proofs.layout.column_slots.Goals as goal
 

@@ -1,4 +1,3 @@
-use Rattle.std.proofs.Common.{List, ℕ, subst}
 use Rattle.batch_prep.proofs.PlaceLemmas.{kept_along, slots_kept, starts_kept}
 use Rattle.batch_prep.proofs.layout.layout_of.Goals as goal
 

@@ -2,7 +2,6 @@ use Rattle.std.proofs.Common.{ap, sym, ◌∙◌, List, ℕ, Some, slice_get, su
 use Rattle.std.specs.Option.{option_map}
 use Rattle.std.proofs.lemmas.Slice.Eq.{bytes_eq-Decides}
 use Rattle.json_scalar.specs.Text.{IsString}
-use Rattle.json_fields.specs.Answer.{IsOnly}
 use Rattle.json_fields.specs.Words.{viewed}
 use Rattle.json_fields.proofs.AnswerLemmas.{along}
 use Rattle.batch_prep.proofs.PlaceLemmas.{slot_by_label, slot_found}

@@ -1,6 +1,6 @@
-use Rattle.std.proofs.Common.{subst, ap, sym, ◌∙◌, List, ℕ}
+use Rattle.std.proofs.Common.{ap, ◌∙◌, List, ℕ}
 use Rattle.name_index.specs.Named.{with_name}
-use Rattle.name_index.proofs.NameLemmas.{distinct, grown, held, stored, Text}
+use Rattle.name_index.proofs.NameLemmas.{distinct, grown, held, stored}
 use Rattle.name_index.proofs.NameIndex.add.Goals as goal
 
 pub invariant_of-self-2 : goal.invariant_of-self-2

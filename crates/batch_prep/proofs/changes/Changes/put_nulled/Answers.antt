@@ -1,6 +1,4 @@
-use Rattle.std.proofs.Common.{refl, false, sym, ◌∙◌, ap, ◌∷◌, ◌++◌, List, ℕ, codes}
-use Rattle.json_write.specs.Objects.{part_before}
-use Rattle.json.specs.Print.{quoted}
+use Rattle.std.proofs.Common.{refl, false, ◌++◌}
 use Rattle.batch_prep.proofs.WrittenLemmas.{change_written, mark, open_more}
 use Rattle.column_types.specs.Rows.{change_text}
 use Rattle.batch_prep.proofs.changes.Changes.put_nulled.Goals as goal

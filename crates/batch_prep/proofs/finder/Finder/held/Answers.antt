@@ -1,4 +1,4 @@
-use Rattle.std.proofs.Common.{List, ap, sym, ◌∙◌, ◌<◌, length, None, Some, Option, ℕ, slice_get, ◌≡◌, subst}
+use Rattle.std.proofs.Common.{List, sym, ◌<◌, length, None, Some, slice_get, ◌≡◌, subst}
 use Rattle.json_span.specs.Members.{text_at}
 use Rattle.json_span.specs.declared.Member.{Member}
 use Rattle.batch_prep.proofs.FoundLemmas.{found_none, found_some, place_read, place_within}
