@@ -1,33 +1,27 @@
 -- A set that is written reads back.
-use Rattle.std.proofs.Common.{◌≡◌, ◌≢◌, ℕ, ◌<◌, ◌≤◌, ◌+◌, ◌^◌, List, [], ◌∷◌, Option, None, Some, Ok, Err, Bool, true, false, cond, ◌||◌, ◌&&◌, not, refl, sym, ◌∙◌, ap, subst, arith, map, codes, decimal, IsUtf8, is_some, option_map, nat_lt, lit<, lit≤}
+use Rattle.std.proofs.Common.{◌≡◌, ◌≢◌, ℕ, List, [], ◌∷◌, Option, None, Some, Bool, true, false, cond, ◌||◌, ◌&&◌, not, refl, sym, ◌∙◌, ap, subst, arith, map, codes, decimal, IsUtf8, is_some, option_map, nat_lt, lit<, lit≤}
 use Rattle.std.specs.List.{AllZip, list_any}
 use Rattle.std.proofs.lemmas.Bool.{le-ltb}
 use Rattle.json.specs.Print.{escape_byte, quoted}
 use Rattle.json.proofs.Printed.Utf8.{IsUtf8-are_ascii}
 use Rattle.json_span.specs.Grammar as json
-use Rattle.json_span.specs.Members.{IsValue, text_at}
-use Rattle.json_span.specs.Elements.{AreElements}
+use Rattle.json_span.specs.Members.{text_at}
 use Rattle.json_span.specs.declared.Span.{Span}
 use Rattle.json_fields.specs.Answer.{IsOnly}
-use Rattle.json_fields.specs.Fields.{HasField, line_depth}
-use Rattle.json_fields.specs.Parts.{HasCount}
 use Rattle.json_fields.proofs.OnlyLemmas.{field_only, has_count_only}
 use Rattle.json_write.specs.Laws.{AreWithin, IsListOf, last_of}
 use Rattle.json_write.specs.Objects.{Part, list_text, named, object_text, optional}
-use Rattle.json_write.specs.Values.{IsOptionalUtf8, IsValueWithin}
+use Rattle.json_write.specs.Values.{IsValueWithin}
 use Rattle.json_write.proofs.Fields.{AreWritten, Reads, has_count, has_field, has_optional_text, has_text, optional_written, reads, word_part}
 use Rattle.json_write.proofs.Lists.{list_of}
 use Rattle.json_write.proofs.Values.{decimal_within, nested_within, optional_text_within, text_within, within_more}
 use Rattle.basics.specs.declared.limits.TheConstants.{GREATEST_GENERATION}
 use Rattle.basics.specs.declared.stream.StreamId.{StreamId}
-use Rattle.stream_index.specs.Same.{is_same_stream}
 use Rattle.stream_index.proofs.IndexLemmas.{Decides-stream}
 use Rattle.outside.specs.declared.faults.StateFault.{StateFault}
 use Rattle.outside.specs.declared.faults.StateFault.TheVariants as fault
 use Rattle.airbyte_message.specs.Lanes.{Lane, all, lane_of, one}
-use Rattle.airbyte_message.specs.Parts.{IsStreamId}
 use Rattle.airbyte_message.specs.State.{State}
-use Rattle.airbyte_message.specs.States.{IsState}
 use Rattle.airbyte_message.specs.declared.message.StateKind.{StateKind}
 use Rattle.airbyte_message.specs.declared.message.StateKind.TheVariants as kind
 use Rattle.airbyte_message.proofs.OneMessage.{id_only, state_only}
@@ -36,9 +30,9 @@ use Rattle.state_kinds.specs.declared.entry.SavedEntry.{SavedEntry}
 use Rattle.state_kinds.specs.declared.stored.Stored.{Stored}
 use Rattle.state_kinds.specs.declared.stored.StoredEntry.{StoredEntry}
 use Rattle.state_kinds.specs.Saved.{Saved, entry_ids, has_states}
-use Rattle.state_kinds.specs.Store.{AreStoredEntries, AreStoredParts, HasState, IsHeldState, IsStored, IsStoredEntry, ReadsStore, is_global_kind, is_legacy, is_legacy_kind, is_mixed, is_of_another, is_stray, is_stream_kind, is_too_large, is_twice, passes, repeats_stream, saved_entry, set_of, store_fault, stored_ids}
+use Rattle.state_kinds.specs.Store.{AreStoredEntries, HasState, IsHeldState, IsStored, IsStoredEntry, is_global_kind, is_legacy, is_legacy_kind, is_mixed, is_of_another, is_stray, is_stream_kind, is_too_large, is_twice, passes, repeats_stream, saved_entry, set_of, store_fault, stored_ids}
 use Rattle.state_kinds.specs.Texts.{entry_parts, held_text, store_text}
-use Rattle.state_kinds.specs.Writable.{AreWritable, IsObjectOfLane, IsOptionalObject, IsWritable, IsWritableEntry, SetsReadBack}
+use Rattle.state_kinds.specs.Writable.{AreWritable, IsOptionalObject, IsWritable, IsWritableEntry, SetsReadBack}
 use Rattle.state_kinds.proofs.FormLemmas.{IsEntryAt, entry_answer, held_null, held_state, parts_answer, stored, stored_answer, stored_entry}
 use Rattle.state_kinds.proofs.OnceLemmas.{distinct_once}
 use Rattle.state_kinds.proofs.ReadLemmas.{reads_set}

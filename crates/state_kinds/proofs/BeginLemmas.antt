@@ -1,5 +1,5 @@
 -- What the beginning of an attempt makes of the entries of a set.
-use Rattle.std.proofs.Common.{◌≡◌, ◌⊎◌, inl, inr, ℕ, zero, suc, List, [], ◌∷◌, ◌++◌, Option, None, Some, Bool, true, false, cond, not, ◌||◌, ◌==◌, refl, sym, ◌∙◌, ap, subst, arith, ◌<◌, ◌≤◌, ◌+◌, length, take, drop, map, filter, find, slice_get, get_or, set, is_some, option_map, append_assoc, append-nil, length-append}
+use Rattle.std.proofs.Common.{◌≡◌, ◌⊎◌, inl, inr, ℕ, zero, suc, List, [], ◌∷◌, ◌++◌, Option, None, Some, Bool, true, false, cond, not, ◌||◌, ◌==◌, refl, sym, ◌∙◌, ap, subst, arith, ◌<◌, ◌≤◌, ◌+◌, length, take, drop, map, filter, slice_get, get_or, set, is_some, option_map, append_assoc, append-nil}
 use Rattle.std.specs.List.{list_any}
 use Rattle.std.proofs.lemmas.List.{take_all, map_push}
 use Rattle.std.proofs.lemmas.List.Elements.{filter-append}
@@ -14,13 +14,13 @@ use Rattle.basics.specs.declared.stream.StreamId.{StreamId}
 use Rattle.stream_index.specs.Distinct.{AreDistinct}
 use Rattle.stream_index.specs.Same.{is_same_stream}
 use Rattle.stream_index.proofs.DistinctLemmas.{distinct_more}
-use Rattle.stream_index.proofs.IndexLemmas.{Decides-stream, list_any-at, list_any-place, same_absent, same_present}
+use Rattle.stream_index.proofs.IndexLemmas.{Decides-stream, list_any-at, same_absent, same_present}
 use Rattle.catalog.specs.declared.stream.ConfStream.{ConfStream}
 use Rattle.catalog.specs.declared.stream.Gen.{Gen}
 use Rattle.catalog.specs.Reading.{ids_of}
 use Rattle.state_kinds.specs.declared.entry.SavedEntry.{SavedEntry}
-use Rattle.state_kinds.specs.Saved.{Saved, IsIndexOf, IsKept, IsSaved, entry_ids, entry_of, has_states, has_stream}
-use Rattle.state_kinds.specs.Changes.{Given, added, begun, generation_of, given_of, is_changed, is_of, new_entry, renewed, renewed_to}
+use Rattle.state_kinds.specs.Saved.{Saved, IsIndexOf, IsKept, entry_ids, entry_of, has_states, has_stream}
+use Rattle.state_kinds.specs.Changes.{Given, added, generation_of, given_of, is_changed, is_of, new_entry, renewed, renewed_to}
 use Rattle.state_kinds.proofs.FindLemmas.{None-is_Some, one_value, by_cases, find_first, find_no, taken, taken_place, absent_append, present_append, map_step}
 
 -- ---- entries by their streams

@@ -1,5 +1,5 @@
 -- What a search finds where one element passes, or none; lists of which one element is changed.
-use Rattle.std.proofs.Common.{◌≡◌, ◌⊎◌, inl, inr, ℕ, zero, suc, List, [], ◌∷◌, ◌++◌, Option, None, Some, Bool, true, false, cond, refl, sym, ◌∙◌, ap, subst, arith, ◌<◌, ◌≤◌, ◌+◌, length, take, drop, set, map, filter, find, slice_get, get_or, slice_index_or, append_assoc, add-one, drop-cons}
+use Rattle.std.proofs.Common.{◌≡◌, ℕ, zero, suc, List, [], ◌∷◌, ◌++◌, None, Some, Bool, true, false, cond, refl, sym, ◌∙◌, ap, arith, ◌<◌, ◌+◌, length, take, drop, set, map, find, slice_get, get_or, append_assoc, add-one, drop-cons}
 use Rattle.std.specs.Prelude.{Result, Ok, Err, OnErr}
 use Rattle.std.proofs.lemmas.Option.{get_or_from_slice_get, slice_get_within}
 use Rattle.std.proofs.lemmas.List.{take_more, map_push, set_at, get_or_at, length-take-le, length-map}

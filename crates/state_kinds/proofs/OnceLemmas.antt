@@ -1,5 +1,5 @@
 -- Streams that stand once, and one that stands twice.
-use Rattle.std.proofs.Common.{◌≡◌, ℕ, zero, suc, List, [], ◌∷◌, ◌++◌, Option, None, Some, Bool, true, false, cond, not, ◌||◌, refl, sym, ◌∙◌, ap, subst, arith, ◌<◌, ◌+◌, length, take, drop, map, slice_get, get_or, append-nil, append_assoc, add-one, drop-cons}
+use Rattle.std.proofs.Common.{◌≡◌, ℕ, suc, List, [], ◌∷◌, ◌++◌, Option, None, Some, Bool, true, false, cond, not, ◌||◌, refl, sym, ◌∙◌, ap, subst, arith, ◌+◌, take, drop, map, slice_get, append-nil, add-one, drop-cons}
 use Rattle.std.specs.List.{cons_option, list_any, filter_map}
 use Rattle.std.proofs.lemmas.List.{map_push, take-append-drop}
 use Rattle.std.proofs.lemmas.List.Elements.{filter_map-append}
@@ -12,7 +12,7 @@ use Rattle.stream_index.proofs.DistinctLemmas.{distinct_more}
 use Rattle.stream_index.proofs.IndexLemmas.{Decides-stream, list_any-at, list_any-place, same_absent, same_present}
 use Rattle.state_kinds.specs.Saved.{has_stream}
 use Rattle.state_kinds.specs.Store.{AddsOnce, repeats_stream}
-use Rattle.state_kinds.proofs.FindLemmas.{None-is_Some, by_cases, one_value, taken}
+use Rattle.state_kinds.proofs.FindLemmas.{None-is_Some, by_cases, taken}
 
 -- the streams so far, each once, in the index
 pub record HasIndexed (ids index : List StreamId) : Type 0 where

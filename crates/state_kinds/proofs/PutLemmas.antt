@@ -1,6 +1,5 @@
 -- A state is put in the place of that of its stream.
-use Rattle.std.proofs.Common.{◌≡◌, ℕ, List, [], ◌∷◌, Option, None, Some, zero, suc, Result, Ok, Err, Bool, true, false, cond, ◌||◌, refl, sym, ◌∙◌, ap, subst, arith, ◌<◌, length, map, set, slice_get, get_or, is_some}
-use Rattle.std.specs.List.{list_any}
+use Rattle.std.proofs.Common.{◌≡◌, ℕ, List, [], ◌∷◌, Some, zero, suc, Result, Ok, Err, Bool, true, false, cond, ◌||◌, refl, sym, ◌∙◌, ap, subst, map, set, slice_get, get_or, is_some}
 use Rattle.basics.specs.declared.stream.StreamId.{StreamId}
 use Rattle.stream_index.specs.Distinct.{AreDistinct}
 use Rattle.stream_index.specs.Same.{is_same_stream}

@@ -1,6 +1,6 @@
 -- A text of the state store, and an array of states, have one reading each.
-use Rattle.std.proofs.Common.{◌≡◌, ◌≢◌, ◌⊎◌, inl, inr, ℕ, List, [], ◌∷◌, Option, None, Some, Result, Ok, Err, Bool, true, false, cond, ◌||◌, ◌&&◌, ◌==◌, refl, sym, ◌∙◌, ap, subst, map, length, is_some, nat_lt, count_by}
-use Rattle.std.specs.List.{filter_map, list_any}
+use Rattle.std.proofs.Common.{◌≡◌, ◌≢◌, inl, inr, ℕ, List, [], ◌∷◌, Option, None, Some, Result, Ok, Err, Bool, true, false, cond, ◌||◌, ◌&&◌, ◌==◌, refl, sym, ◌∙◌, ap, subst, map, length, is_some}
+use Rattle.std.specs.List.{list_any}
 use Rattle.std.specs.Option.{option_map}
 use Rattle.json_fields.specs.Answer.{IsAnswer, IsOnly}
 use Rattle.basics.specs.declared.stream.StreamId.{StreamId}
@@ -12,9 +12,9 @@ use Rattle.catalog.specs.Checks.{unless}
 use Rattle.state_kinds.specs.declared.entry.SavedEntry.{SavedEntry}
 use Rattle.state_kinds.specs.declared.stored.Stored.{Stored}
 use Rattle.state_kinds.specs.declared.stored.StoredEntry.{StoredEntry}
-use Rattle.state_kinds.specs.Saved.{Saved, IsIndexOf, entry_ids, has_states, nothing_saved}
+use Rattle.state_kinds.specs.Saved.{Saved, IsIndexOf, entry_ids, has_states}
 use Rattle.state_kinds.specs.Store.{IsIndexOfStored, IsStored, ReadsStore, first_fault, is_global_kind, is_legacy, is_legacy_kind, is_mixed, is_stray, is_stream_kind, is_too_large, is_twice, repeats_stream, saved_entry, set_of, store_fault, stored_ids}
-use Rattle.state_kinds.specs.StateLists.{AreStates, ReadsStates, first_list_fault, has_kind, list_fault, repeats_lane, stream_of}
+use Rattle.state_kinds.specs.StateLists.{AreStates, ReadsStates, first_list_fault, has_kind, list_fault, repeats_lane}
 
 -- ---- the checks before the last, and the last
 

@@ -1,12 +1,12 @@
 -- What an array of states says, from what its elements say.
-use Rattle.std.proofs.Common.{◌≡◌, ℕ, ◌+◌, ◌<◌, ◌≤◌, List, Option, None, Some, Bool, true, false, cond, refl, sym, ◌∙◌, ap, subst, arith, ◌==◌, count_by, length, take, get_or}
+use Rattle.std.proofs.Common.{◌≡◌, ℕ, ◌+◌, ◌<◌, ◌≤◌, List, Option, None, Bool, true, false, cond, refl, sym, ◌∙◌, ap, subst, arith, ◌==◌, count_by, length, take, get_or}
 use Rattle.std.specs.List.{AllZip, list_any}
 use Rattle.std.proofs.lemmas.List.{take_all}
 use Rattle.std.proofs.lemmas.List.Sums.{count_by_more_no, count_by_more_yes}
 use Rattle.json_span.specs.Members.{text_at}
 use Rattle.json_span.specs.Elements.{AreElements}
 use Rattle.json_span.specs.declared.Span.{Span}
-use Rattle.json_fields.specs.Answer.{IsAnswer, IsOnly}
+use Rattle.json_fields.specs.Answer.{IsAnswer}
 use Rattle.json_fields.specs.Fields.{line_depth}
 use Rattle.json_fields.specs.Parts.{IsCutList}
 use Rattle.json_squeeze.specs.Squeeze.{squeezed}

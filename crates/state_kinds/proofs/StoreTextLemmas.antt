@@ -1,7 +1,7 @@
 -- The text of the state store grows by one part after another.
-use Rattle.std.proofs.Common.{◌≡◌, ℕ, List, [], ◌∷◌, ◌++◌, Option, refl, sym, ◌∙◌, ap, map, option_map, codes, decimal, append_assoc}
+use Rattle.std.proofs.Common.{◌≡◌, ℕ, List, [], ◌∷◌, ◌++◌, ◌∙◌, ap, map, option_map, codes, decimal, append_assoc}
 use Rattle.json.specs.Print.{quoted}
-use Rattle.json_write.specs.Objects.{Part, list_text, more_text, named, object_text, open_object, optional, part_before}
+use Rattle.json_write.specs.Objects.{Part, list_text, more_text, named, object_text, optional, part_before}
 use Rattle.json_write.proofs.Texts.{closes, grows, keyed, optional-append}
 use Rattle.state_kinds.specs.declared.entry.SavedEntry.{SavedEntry}
 use Rattle.state_kinds.specs.Saved.{Saved}

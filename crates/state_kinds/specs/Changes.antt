@@ -1,5 +1,5 @@
 -- What an attempt's beginning makes of a set of saved states, and what a state that is put into it does.
-use Rattle.std.specs.Prelude.{ℕ, List, [], ◌++◌, ◌==◌, map, filter, find, Option, None, Some, Result, Ok, Err, Bool, false, not, is_some, option_map, if◌then◌else◌}
+use Rattle.std.specs.Prelude.{ℕ, List, ◌++◌, ◌==◌, map, filter, find, Option, None, Some, Result, Ok, Err, Bool, false, not, is_some, option_map, if◌then◌else◌}
 use Rattle.std.specs.List.{list_any, zip}
 use Rattle.stream_index.specs.Same.{is_same_stream}
 use Rattle.basics.specs.declared.stream.StreamId.{StreamId}

@@ -1,6 +1,6 @@
 -- A set of saved states as contracts see it: the streams in the order in which they first came, each with its generation and
 -- perhaps its state, and perhaps a state of all streams. A state is the text of its object.
-use Rattle.std.specs.Prelude.{◌≡◌, ℕ, List, [], map, find, Option, None, Some, Bool, true, false, is_some, option_and_then}
+use Rattle.std.specs.Prelude.{◌≡◌, ℕ, List, [], map, find, Option, None, Bool, true, false, is_some, option_and_then}
 use Rattle.std.specs.List.{list_any}
 use Rattle.stream_index.specs.Same.{is_same_stream}
 use Rattle.stream_index.specs.Distinct.{AreDistinct}

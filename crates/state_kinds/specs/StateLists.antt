@@ -1,6 +1,6 @@
 -- What an array of states reads as: its states in order, or the first fault of the text. Its elements may be laid out over
 -- several lines; a state stands on one.
-use Rattle.std.specs.Prelude.{◌≡◌, ◌⊎◌, ℕ, List, [], ◌∷◌, Option, None, Some, Result, Ok, Err, Bool, true, false, ◌&&◌, ◌||◌, ◌==◌, nat_lt, count_by, if◌then◌else◌}
+use Rattle.std.specs.Prelude.{◌≡◌, ◌⊎◌, ℕ, List, [], ◌∷◌, Option, None, Some, Result, Err, Bool, ◌&&◌, ◌||◌, ◌==◌, nat_lt, count_by, if◌then◌else◌}
 use Rattle.std.specs.List.{AllZip, filter_map, list_any}
 use Rattle.json_span.specs.Members.{text_at}
 use Rattle.json_span.specs.Elements.{AreElements}

@@ -4,7 +4,6 @@ use Rattle.json_span.specs.Members.{IsValue}
 use Rattle.json_fields.specs.Answer.{IsOnly}
 use Rattle.json_write.specs.Values.{IsOptionalUtf8}
 use Rattle.basics.specs.declared.limits.TheConstants.{GREATEST_GENERATION}
-use Rattle.basics.specs.declared.stream.StreamId.{StreamId}
 use Rattle.airbyte_message.specs.Lanes.{Lane, one, all, lane_of}
 use Rattle.airbyte_message.specs.States.{IsState}
 use Rattle.airbyte_message.specs.State.{State}

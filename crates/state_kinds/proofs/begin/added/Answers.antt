@@ -1,4 +1,4 @@
-use Rattle.std.proofs.Common.{Vec, Global, ◌≡◌, ◌≤◌, ◌∷◌, ◌++◌, [], List, length, sym, ap, subst, ◌+◌, ◌∙◌, arith}
+use Rattle.std.proofs.Common.{Vec, Global, ◌≤◌, ◌∷◌, ◌++◌, [], List, length, sym, ap, subst, ◌+◌, ◌∙◌, arith}
 use Rattle.json_fields.proofs.AnswerLemmas.{true_false}
 use Rattle.state_kinds.specs.declared.entry.SavedEntry.{SavedEntry}
 use Rattle.state_kinds.specs.Changes.{given_of}

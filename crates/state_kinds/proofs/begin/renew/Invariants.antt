@@ -1,5 +1,4 @@
-use Rattle.std.proofs.Common.{◌≡◌, ◌++◌, take, drop, map, length}
-use Rattle.state_kinds.specs.Changes.{given_of, renewed}
+use Rattle.state_kinds.specs.Changes.{given_of}
 use Rattle.state_kinds.proofs.BeginLemmas.{HasRenewed}
 use Rattle.state_kinds.proofs.begin.renew.Given as goal
 

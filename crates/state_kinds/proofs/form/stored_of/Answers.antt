@@ -1,4 +1,4 @@
-use Rattle.std.proofs.Common.{◌≡◌, Some, ap, codes, ◌∙◌, subst, ℕ}
+use Rattle.std.proofs.Common.{codes, subst, ℕ}
 use Rattle.std.proofs.lemmas.Result.{IfOk-weaker}
 use Rattle.json_fields.specs.Fields.{line_depth}
 use Rattle.json_fields.specs.Parts.{HasCount}

@@ -1,8 +1,7 @@
-use Rattle.std.proofs.Common.{◌≡◌, ◌<◌, List, Bool, Some, length, slice_get, subst, sym, refl, ap, ◌∙◌, true, false, arith}
+use Rattle.std.proofs.Common.{List, Bool, Some, length, subst, refl}
 use Rattle.std.proofs.lemmas.List.{take_all}
 use Rattle.std.proofs.lemmas.Option.{slice_get_read}
 use Rattle.basics.specs.declared.stream.StreamId.{StreamId}
-use Rattle.stream_index.specs.Distinct.{AreDistinct}
 use Rattle.state_kinds.specs.declared.stored.StoredEntry.{StoredEntry}
 use Rattle.state_kinds.specs.Store.{AddsOnce, stored_ids}
 use Rattle.state_kinds.proofs.OnceLemmas.{HasIndexed, distinct_once, mapped_more, mapped_there}

@@ -1,4 +1,4 @@
-use Rattle.std.proofs.Common.{◌≡◌, ◌<◌, List, Bool, Option, Some, length, slice_get, subst, sym, refl, ap, ◌∙◌, true, false, arith}
+use Rattle.std.proofs.Common.{List, Bool, Option, length, subst, sym, refl, ap, ◌∙◌}
 use Rattle.std.specs.List.{filter_map}
 use Rattle.std.specs.Option.{option_copied}
 use Rattle.std.proofs.lemmas.List.{take_all}

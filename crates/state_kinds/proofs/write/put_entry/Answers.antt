@@ -1,8 +1,3 @@
-use Rattle.std.proofs.Common.{[], ◌∷◌, codes, decimal, option_map, ap, ◌∙◌, sym}
-use Rattle.json.specs.Print.{quoted}
-use Rattle.json_write.specs.Objects.{Part, named, optional}
-use Rattle.json_write.proofs.Texts.{closes, grows}
-use Rattle.state_kinds.specs.Texts.{held_text}
 use Rattle.state_kinds.proofs.StoreTextLemmas.{entry_closes}
 use Rattle.state_kinds.proofs.write.put_entry.Goals as goal
 

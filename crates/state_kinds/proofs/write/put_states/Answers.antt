@@ -1,8 +1,7 @@
-use Rattle.std.proofs.Common.{◌≡◌, ◌≤◌, List, Option, Some, length, sym, ap, ◌∙◌, arith, option_map, slice_get}
+use Rattle.std.proofs.Common.{◌≡◌, ◌≤◌, Option, Some, length, ap, ◌∙◌, arith, option_map, slice_get}
 use Rattle.std.specs.Option.{option_copied}
 use Rattle.std.proofs.lemmas.List.{length-map}
 use Rattle.std.proofs.lemmas.Option.{slice_get-map}
-use Rattle.basics.specs.declared.stream.StreamId.{StreamId}
 use Rattle.catalog.specs.declared.stream.ConfStream.{ConfStream}
 use Rattle.catalog.specs.Reading.{ids_of}
 use Rattle.state_kinds.specs.Saved.{state_of}
