@@ -1,7 +1,7 @@
 // Laws of merges.
 ghost use Rattle.dedup_merge.specs.Laws.{FittingMergesHaveWinners, AllMerged, PagesMergeAll, ExceededRowDoesNotFit};
 
-/// Behind events whose merges fit, each side's winners are those of all rows that were merged into it.
+/// Behind events whose merges fit, the winners of the load's side of each stream are those of all rows that were merged into it.
 pub fn fitting_merges_have_winners()
     ensures { FittingMergesHaveWinners }
 {}

@@ -54,6 +54,10 @@ fn a_store_is_read_and_written_again(rt: HostRuntime) -> Result<(), Fail> {
             r#"{"version":1,"streams":[{"name":"a","generation":3,"state":null}],"global":{"type":"GLOBAL","global":{"stream_states":[]}}}"#,
             r#"{"version":1,"streams":[{"name":"a","generation":3,"state":null}],"global":{"type":"GLOBAL","global":{"stream_states":[]}}}"#,
         ),
+        (
+            "{\n  \"version\": 1,\n  \"streams\": [\n    {\"name\": \"a\", \"generation\": 2, \"state\": {\n      \"type\": \"STREAM\",\n      \"stream\": {\"stream_descriptor\": {\"name\": \"a\"}}\n    }}\n  ],\n  \"global\": null\n}\n",
+            r#"{"version":1,"streams":[{"name":"a","generation":2,"state":{"type":"STREAM","stream":{"stream_descriptor":{"name":"a"}}}}],"global":null}"#,
+        ),
     ] {
         let Ok(again) = read_again(rt.alloc(), text) else {
             return Err(Fail::from(NoMemory));

@@ -30,10 +30,13 @@ use Rattle.state_kinds.specs.declared.entry.SavedEntry.{SavedEntry}
 use Rattle.state_kinds.specs.declared.stored.Stored.{Stored}
 use Rattle.state_kinds.specs.declared.stored.StoredEntry.{StoredEntry}
 use Rattle.state_kinds.specs.Saved.{Saved, entry_ids, has_states}
+use Rattle.airbyte_message.specs.States.{IsState}
+use Rattle.state_kinds.specs.OneLine.{on_one_line}
 use Rattle.state_kinds.specs.Store.{AreStoredEntries, HasState, IsHeldState, IsStored, IsStoredEntry, is_global_kind, is_legacy, is_legacy_kind, is_mixed, is_of_another, is_stray, is_stream_kind, is_too_large, is_twice, passes, repeats_stream, saved_entry, set_of, store_fault, stored_ids}
 use Rattle.state_kinds.specs.Texts.{entry_parts, held_text, store_text}
 use Rattle.state_kinds.specs.Writable.{AreWritable, IsOptionalObject, IsWritable, IsWritableEntry, SetsReadBack}
 use Rattle.state_kinds.proofs.FormLemmas.{IsEntryAt, entry_answer, held_null, held_state, parts_answer, stored, stored_answer, stored_entry}
+use Rattle.state_kinds.proofs.OneLineLemmas.{stands}
 use Rattle.state_kinds.proofs.OnceLemmas.{distinct_once}
 use Rattle.state_kinds.proofs.ReadLemmas.{reads_set}
 
@@ -41,7 +44,7 @@ use Rattle.state_kinds.proofs.ReadLemmas.{reads_set}
 
 only_held : (held : List ℕ) (state : Option State) → IsHeldState held state → IsOnly (IsHeldState held) state
 only_held held None is = held_null held is
-only_held held (Some state) is = held_state held state (state_only held state is)
+only_held held (Some state) is = held_state held state (state_only (on_one_line held) state is)
 
 only_state : (text name : List ℕ) (state : Option State) → HasState text name state → IsOnly (HasState text name) state
 only_state text name state h = record {
@@ -86,7 +89,7 @@ held_of lane (Some object) h = Some h.state
 held_is : (lane : Lane) (held : Option (List ℕ)) (h : IsOptionalObject lane held) → IsHeldState (held_text held) (held_of lane held h)
 unfolding held_of
 held_is lane None h = refl
-held_is lane (Some object) h = h.is
+held_is lane (Some object) h = subst (λ (t : List ℕ). IsState t h.state) (sym (stands object h.is.line)) h.is
 
 held_object : (lane : Lane) (held : Option (List ℕ)) (h : IsOptionalObject lane held) → option_map (λ (s : State). s.object) (held_of lane held h) ≡ held
 unfolding held_of

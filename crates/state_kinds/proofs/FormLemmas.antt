@@ -18,6 +18,7 @@ use Rattle.airbyte_message.specs.States.{IsState}
 use Rattle.catalog.proofs.ListLemmas.{list_answer, no_list}
 use Rattle.state_kinds.specs.declared.stored.Stored.{Stored}
 use Rattle.state_kinds.specs.declared.stored.StoredEntry.{StoredEntry}
+use Rattle.state_kinds.specs.OneLine.{on_one_line}
 use Rattle.state_kinds.specs.Store.{AreStoredEntries, AreStoredParts, HasState, IsHeldState, IsStored, IsStoredEntry}
 
 -- `null` is no object
@@ -31,16 +32,16 @@ held_null held e = record { is = e; only = λ other is. same other is }
   where
     same : (other : Option State) → IsHeldState held other → other ≡ None
     same None is = refl
-    same (Some state) is = absurd (null_nests (subst (λ (t : List ℕ). NestsWithin state_depth t) e is.nests))
+    same (Some state) is = absurd (null_nests (subst (λ (t : List ℕ). NestsWithin state_depth (on_one_line t)) e is.nests))
 
-pub held_state : (held : List ℕ) (state : State) → IsOnly (IsState held) state → IsOnly (IsHeldState held) (Some state)
+pub held_state : (held : List ℕ) (state : State) → IsOnly (IsState (on_one_line held)) state → IsOnly (IsHeldState held) (Some state)
 held_state held state only = record { is = only.is; only = λ other is. same other is }
   where
     same : (other : Option State) → IsHeldState held other → other ≡ Some state
-    same None is = absurd (null_nests (subst (λ (t : List ℕ). NestsWithin state_depth t) is only.is.nests))
+    same None is = absurd (null_nests (subst (λ (t : List ℕ). NestsWithin state_depth (on_one_line t)) is only.is.nests))
     same (Some other) is = ap (λ (s : State). Some s) (only.only other is)
 
-pub held_other : (held : List ℕ) → (held ≡ codes "null" → ⊥) → IsAnswer (IsState held) None → IsAnswer (IsHeldState held) None
+pub held_other : (held : List ℕ) → (held ≡ codes "null" → ⊥) → IsAnswer (IsState (on_one_line held)) None → IsAnswer (IsHeldState held) None
 held_other held other none None is = other is
 held_other held other none (Some state) is = none state is
 

@@ -5,6 +5,7 @@ pub mod ListLemmas
 pub mod StoreTextLemmas
 pub mod OnceLemmas
 pub mod FormLemmas
+pub mod OneLineLemmas
 pub mod StateListLemmas
 pub mod ReadLemmas
 pub mod BackLemmas

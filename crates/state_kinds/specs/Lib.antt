@@ -1,6 +1,7 @@
 pub mod Saved
 pub mod Changes
 pub mod Texts
+pub mod OneLine
 pub mod Store
 pub mod StateLists
 pub mod Writable

@@ -1,12 +1,10 @@
--- What an array of states reads as: its states in order, or the first fault of the text. Its elements may be laid out over
--- several lines; a state stands on one.
-use Rattle.std.specs.Prelude.{◌≡◌, ◌⊎◌, ℕ, List, [], ◌∷◌, Option, None, Some, Result, Err, Bool, ◌&&◌, ◌||◌, ◌==◌, nat_lt, count_by, if◌then◌else◌}
+-- What an array of states reads as: its states in order, or the first fault of the text.
+use Rattle.std.specs.Prelude.{◌≡◌, ◌⊎◌, ℕ, List, [], ◌∷◌, Option, None, Some, Result, Err, Bool, ◌&&◌, ◌||◌, nat_lt, count_by}
 use Rattle.std.specs.List.{AllZip, filter_map, list_any}
 use Rattle.json_span.specs.Members.{text_at}
 use Rattle.json_span.specs.Elements.{AreElements}
 use Rattle.json_span.specs.declared.Span.{Span}
 use Rattle.json_fields.specs.Fields.{line_depth}
-use Rattle.json_squeeze.specs.Squeeze.{squeezed}
 use Rattle.basics.specs.declared.stream.StreamId.{StreamId}
 use Rattle.airbyte_message.specs.States.{IsState}
 use Rattle.airbyte_message.specs.State.{State}
@@ -15,11 +13,8 @@ use Rattle.airbyte_message.specs.declared.message.StateKind.TheVariants as kind
 use Rattle.outside.specs.declared.faults.StateFault.{StateFault}
 use Rattle.outside.specs.declared.faults.StateFault.TheVariants as fault
 use Rattle.catalog.specs.Checks.{first_failing, unless}
+use Rattle.state_kinds.specs.OneLine.{on_one_line}
 use Rattle.state_kinds.specs.Store.{is_global_kind, is_legacy_kind, is_stream_kind, repeats_stream}
-
--- the text as it stands, or without its white space where it has a line feed
-abbrev pub on_one_line : List ℕ → List ℕ
-on_one_line text = if list_any (λ byte. byte == 10) text then squeezed text else text
 
 -- the text is an array of state objects
 pub record AreStates (text : List ℕ) (states : List State) : Type 0 where

@@ -21,14 +21,15 @@ use Rattle.outside.specs.declared.faults.StateFault.TheVariants as fault
 use Rattle.state_kinds.specs.declared.entry.SavedEntry.{SavedEntry}
 use Rattle.state_kinds.specs.declared.stored.StoredEntry.{StoredEntry}
 use Rattle.state_kinds.specs.declared.stored.Stored.{Stored}
+use Rattle.state_kinds.specs.OneLine.{on_one_line}
 use Rattle.state_kinds.specs.Saved.{Saved, has_stream, nothing_saved}
 
 -- ---- the form
 
--- null, or a state's object
+-- null, or a state's object, which may be laid out over several lines
 abbrev pub IsHeldState : List ℕ → Option State → Type 0
 IsHeldState held None = held ≡ codes "null"
-IsHeldState held (Some state) = IsState held state
+IsHeldState held (Some state) = IsState (on_one_line held) state
 
 -- the member of this name is there, and is null or a state's object
 pub record HasState (text name : List ℕ) (state : Option State) : Type 0 where

@@ -8,21 +8,22 @@ ghost use Rattle.json_fields.specs.Fields.{IsCut};
 ghost use Rattle.airbyte_message.specs.Parts.{IsStreamId};
 ghost use Rattle.state_kinds.specs.Store.{AreStoredEntries, AreStoredParts, HasState, IsHeldState, IsStored, IsStoredEntry};
 
+use crate::one_line::state_over_lines;
 use crate::stored::{Stored, StoredEntry};
-use airbyte_message::{StateMsg, state_of};
+use airbyte_message::StateMsg;
 use basics::{NoMemory, Sequence, StreamId};
 use json_fields::{count_field, cut, cut_list, field, optional_text, text_field};
 use json_span::{MAX_DEPTH, MemberList, Span};
 use std::alloc::Global;
 
-// The state that a value is, `Some(None)` where it is null, `None` where it is neither.
+// The state that a value is, which may be laid out over several lines; `Some(None)` where it is null, `None` where it is neither.
 fn held_state_of(alloc: Global, held: &[u8]) -> Result<Option<Option<StateMsg>>, NoMemory>
     ensures { IfOk result (IsAnswer (IsHeldState held.now)) }
 {
     if held == b"null".as_slice() {
         return Ok(Some(None));
     }
-    match state_of(alloc, held)? {
+    match state_over_lines(alloc, held)? {
         Some(state) => Ok(Some(Some(state))),
         None => Ok(None),
     }

@@ -7,6 +7,7 @@ mod entry;
 mod form;
 mod laws;
 mod once;
+mod one_line;
 mod read;
 mod set;
 mod states;

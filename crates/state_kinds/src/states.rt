@@ -7,32 +7,21 @@ ghost use Rattle.json_span.specs.Elements.{IsElementOf};
 ghost use Rattle.json_fields.specs.Answer.{IsAnswer, IsOnly};
 ghost use Rattle.airbyte_message.specs.States.{IsState};
 ghost use Rattle.state_kinds.specs.Store.{is_global_kind, is_legacy_kind, is_stream_kind, repeats_stream};
-ghost use Rattle.state_kinds.specs.StateLists.{AreStates, ReadsStates, first_list_fault, has_kind, list_fault, on_one_line, repeats_lane as repeats_lane_test, stream_of as stream_of_kind};
+ghost use Rattle.state_kinds.specs.OneLine.{on_one_line};
+ghost use Rattle.state_kinds.specs.StateLists.{AreStates, ReadsStates, first_list_fault, has_kind, list_fault, repeats_lane as repeats_lane_test, stream_of as stream_of_kind};
 
 use crate::once::add_once;
-use airbyte_message::{StateKind, StateMsg, state_of};
+use crate::one_line::state_over_lines;
+use airbyte_message::{StateKind, StateMsg};
 use basics::{NoMemory, Sequence, StreamId};
 use json_fields::cut_list;
 use json_span::{MAX_DEPTH, Span};
-use json_squeeze::squeeze;
 use outside::StateFault;
 use std::alloc::Global;
 use stream_index::StreamIndex;
 
 /// States, in order.
 pub type StateList = Sequence<StateMsg>;
-
-// The state that a value is, which may be laid out over several lines.
-fn listed_state_of(alloc: Global, text: &[u8]) -> Result<Option<StateMsg>, NoMemory>
-    ensures { IfOk result (IsAnswer (IsState (on_one_line text.now))) }
-{
-    if text.contains(&b'\n') {
-        let line = squeeze(alloc, text)?;
-        state_of(alloc, line.as_slice())
-    } else {
-        state_of(alloc, text)
-    }
-}
 
 // The states that the elements at these places are.
 fn states_at(alloc: Global, list: &[u8], spans: &[Span]) -> Result<Option<StateList>, NoMemory>
@@ -41,7 +30,7 @@ fn states_at(alloc: Global, list: &[u8], spans: &[Span]) -> Result<Option<StateL
 {
     let mut states = StateList::with_capacity(alloc, spans.len())?;
     for span in spans {
-        let Some(state) = listed_state_of(alloc, span.of(list))? else {
+        let Some(state) = state_over_lines(alloc, span.of(list))? else {
             return Ok(None);
         };
         states.push(state)?;

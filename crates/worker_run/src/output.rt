@@ -123,6 +123,7 @@ fn rows_in(event: &Event) -> &[RawRow]
 fn say_row<K: Desk>(line: &mut Bytes, desk: &mut K, body: &[u8]) -> Result<(), Fault>
     ensures ok { OnOk result (SaidLines (row_line body.now ∷ []) (K.seen desk.old) (K.seen desk.new)) }
     ensures front { SaidFront (IsErrOf result Fault.Failed) (row_line body.now ∷ []) (K.seen desk.old) (K.seen desk.new) }
+    ensures stays { StaysUnlessFailed result (K.seen desk.old).say_faults (K.seen desk.new).say_faults }
 {
     line.clear();
     line.extend(b"row ")?;

@@ -3,7 +3,7 @@ use Rattle.json_span.specs.declared.Span.{Span}
 use Rattle.json_fields.specs.Answer.{IsOnly}
 use Rattle.json_fields.proofs.AnswerLemmas.{along}
 use Rattle.catalog.proofs.ListLemmas.{loop_all, loop_more, loop_none}
-use Rattle.state_kinds.specs.StateLists.{on_one_line}
+use Rattle.state_kinds.specs.OneLine.{on_one_line}
 use Rattle.airbyte_message.specs.States.{IsState}
 use Rattle.state_kinds.proofs.StateListLemmas.{IsStateAt}
 use Rattle.state_kinds.proofs.states.states_at.Goals as goal

@@ -1,7 +1,7 @@
 use Rattle.std.proofs.Common.{sym, ◌∙◌}
 use Rattle.std.proofs.lemmas.Result.{IfOk-weaker}
-use Rattle.state_kinds.proofs.StateListLemmas.{line_of_lines, line_of_one}
-use Rattle.state_kinds.proofs.states.listed_state_of.Goals as goal
+use Rattle.state_kinds.proofs.OneLineLemmas.{line_of_lines, line_of_one}
+use Rattle.state_kinds.proofs.one_line.state_over_lines.Goals as goal
 
 pub returns-in_ok-line : goal.returns-in_ok-line
 returns-in_ok-line c =
