@@ -55,10 +55,10 @@ pub entry_is : (text streams entry name : List ℕ) → IsOnly (HasField text (c
 entry_is text streams entry name field single is = one_entry-injective is.entry entry (sym is.single ∙ (field.only is.streams is.field ∙ single))
 
 pub catalog_answer : (text streams entry : List ℕ) (found : Option (List ℕ)) → IsOnly (HasField text (codes "streams")) streams → streams ≡ one_entry entry → IsAnswer (IsEntry entry) found → IsAnswer (IsCatalog text) found
-catalog_answer text streams entry None field single answer = λ name is. answer name (subst (λ (e : List ℕ). IsEntry e name) (entry_is text streams entry name field single is) is.is)
+catalog_answer text streams entry None field single answer = λ name is. answer name (subst (λ (e : List ℕ). IsEntry e name) (entry_is text streams entry name field single is) is.holds)
 catalog_answer text streams entry (Some name) field single answer = record {
-  is = record { streams = streams; field = field.is; entry = entry; single = single; is = answer.is };
-  only = λ other is. answer.only other (subst (λ (e : List ℕ). IsEntry e other) (entry_is text streams entry other field single is) is.is);
+  is = record { streams = streams; field = field.is; entry = entry; single = single; holds = answer.is };
+  only = λ other is. answer.only other (subst (λ (e : List ℕ). IsEntry e other) (entry_is text streams entry other field single is) is.holds);
 }
 
 pub no_entry : (text streams : List ℕ) → IsOnly (HasField text (codes "streams")) streams → ((entry : List ℕ) → streams ≡ one_entry entry → ⊥) → (name : List ℕ) → ¬ IsCatalog text name

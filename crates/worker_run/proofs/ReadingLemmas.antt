@@ -98,7 +98,7 @@ says_state old mid new object before now after says state said =
 pub says_other : (old mid new : World) (other : Option (List ℕ)) (before now after : Option (List (List ℕ))) → SaysLines old mid before now → TakesOther mid other new → after ≡ told_more (option_to_list other) now → SaysLines old new before after
 says_other old mid new other before now after says takes said =
     says_more old mid new before now after (other_line takes.line takes.found) takes.rest says takes.next takes.fits takes.after
-    (said ∙ ap (λ (o : Option (List ℕ)). told_more (option_to_list o) now) takes.is)
+    (said ∙ ap (λ (o : Option (List ℕ)). told_more (option_to_list o) now) takes.said_is)
 
 -- what such a line says was said or not
 pub says_some_other : (old mid new : World) (other : Option (List ℕ)) (before now after : Option (List (List ℕ))) → SaysLines old mid before now → TakesOther mid other new → GrewByFront (option_to_list other) now after → ReadsSome old before after

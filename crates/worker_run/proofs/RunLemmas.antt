@@ -75,14 +75,14 @@ end_is text stream old new end before mid begins reads =
 pub attempted : (text stream : List ℕ) (old new : World) (end : End) (before mid now : Option (List (List ℕ))) → old ≡ begun text stream → Reads old new end before mid → now ≡ told_more (end_lines new.stream (committed_lines new.events) end) mid → Attempted text stream end before now
 attempted text stream old new end before mid now begins reads said = record {
   lines = attempt_lines stream (found_in reads.says.taken_lines) end;
-  is = attempt_of text stream old new end before mid begins reads;
+  attempt = attempt_of text stream old new end before mid begins reads;
   said = told_both (said_lines (found_in reads.says.taken_lines)) (end_lines stream (row_lines (found_in reads.says.taken_lines)) end) before mid now reads.says.said (said ∙ ap (λ (ls : List (List ℕ)). told_more ls mid) (end_is text stream old new end before mid begins reads));
 }
 
 -- an attempt that stops short
 
 pub short_none : (text stream : List ℕ) (before now : Option (List (List ℕ))) → now ≡ before → StopsShort text stream before now
-short_none text stream before now same = record { front = []; said = same ∙ sym (told_more-none before); is = λ end lines is. record { rest = lines; splits = refl } }
+short_none text stream before now same = record { front = []; said = same ∙ sym (told_more-none before); in_front = λ end lines is. record { rest = lines; splits = refl } }
 
 pub short_lines : (text stream : List ℕ) (old : World) (before now : Option (List (List ℕ))) → old ≡ begun text stream → ReadsSome old before now → StopsShort text stream before now
 short_lines text stream old before now begins some =
@@ -90,7 +90,7 @@ short_lines text stream old before now begins some =
     record {
       front = said_lines (found_in some.says.taken_lines);
       said = some.says.said;
-      is = some_lines_front text stream some.says.taken_lines some.through.lines takes.fits takes.lines;
+      in_front = some_lines_front text stream some.says.taken_lines some.through.lines takes.fits takes.lines;
     }
 
 pub short_end : (text stream : List ℕ) (old new : World) (end : End) (before mid now : Option (List (List ℕ))) → old ≡ begun text stream → Reads old new end before mid → GrewByFront (end_lines new.stream (committed_lines new.events) end) mid now → StopsShort text stream before now
@@ -106,7 +106,7 @@ short_end text stream old new end before mid now begins reads grew = short
     short = record {
       front = whole.front;
       said = whole.grew;
-      is = λ other lines is. record { rest = whole.rest; splits = sym (one_attempt text stream end other (attempt_lines stream (found_in reads.says.taken_lines) end) lines (attempt_of text stream old new end before mid begins reads) is).says ∙ whole.splits };
+      in_front = λ other lines is. record { rest = whole.rest; splits = sym (one_attempt text stream end other (attempt_lines stream (found_in reads.says.taken_lines) end) lines (attempt_of text stream old new end before mid begins reads) is).says ∙ whole.splits };
     }
 
 -- the body of a run
@@ -120,7 +120,7 @@ body_read_fault texts names fault.NoMemory end before now is same = subst (λ (e
     front_none (Some t) = λ other lines comes. record { rest = lines; splits = refl }
 
     part_none : (by_name : Option Texts) (ns : TextNames) (old new : Option (List (List ℕ))) → new ≡ old → SaidPart by_name (Some names) old new
-    part_none by_name ns old new e = record { front = []; said = e ∙ sym (told_more-none old); is = front_none by_name }
+    part_none by_name ns old new e = record { front = []; said = e ∙ sym (told_more-none old); in_front = front_none by_name }
 
 pub body_no_memory : (texts : Option Texts) (names : TextNames) (before now : Option (List (List ℕ))) → now ≡ before → SaysBody texts (Some names) how.NoMemory before now
 body_no_memory texts names before now same = body_read_fault texts names fault.NoMemory how.NoMemory before now refl same
@@ -143,9 +143,9 @@ body_at texts names text stream how.NoMemory lines before now is said = absurd i
 
 pub body_attempt : (texts : Option Texts) (names : TextNames) (catalog messages stream : List ℕ) (end : End) (before mid now : Option (List (List ℕ))) → HasTextNamed texts names.catalog catalog → HasTextNamed texts names.messages messages → IsOnly (IsCatalog catalog) stream → mid ≡ before → Attempted messages stream end mid now → SaysBody texts (Some names) end before now
 body_attempt texts names catalog messages stream end before mid now has_catalog has_messages only same done =
-    body_at texts names messages stream end done.lines before now done.is (record {
+    body_at texts names messages stream end done.lines before now done.attempt (record {
       lines = done.lines;
-      comes = inr (inr (record { catalog = catalog; catalog_is = has_catalog; stream = stream; stream_is = only; messages = messages; messages_is = has_messages; attempt = done.is }));
+      comes = inr (inr (record { catalog = catalog; catalog_is = has_catalog; stream = stream; stream_is = only; messages = messages; messages_is = has_messages; attempt = done.attempt }));
       said = done.said ∙ ap (λ (t : Option (List (List ℕ))). told_more done.lines t) same;
     })
 
@@ -177,7 +177,7 @@ body_short texts names catalog messages stream f end before mid now has_catalog 
     part = record {
       front = short.front;
       said = short.said ∙ ap (λ (t : Option (List (List ℕ))). told_more short.front t) same;
-      is = front_of_short texts names catalog messages stream short.front has_catalog has_messages only short.is;
+      in_front = front_of_short texts names catalog messages stream short.front has_catalog has_messages only short.in_front;
     }
 
     at_end : (g : Fault) → IsSayFault g end → SaysBody texts (Some names) end before now
@@ -192,7 +192,7 @@ pub body_usage_short : (texts : Option Texts) (asked : Option TextNames) (f : Fa
 body_usage_short texts asked f end before now none is grew = subst (λ (a : Option TextNames). SaysBody texts a end before now) (sym none) (at_end f is)
   where
     part : SaidPart texts None before now
-    part = record { front = grew.front; said = grew.grew; is = record { rest = grew.rest; splits = grew.splits } }
+    part = record { front = grew.front; said = grew.grew; in_front = record { rest = grew.rest; splits = grew.splits } }
 
     at_end : (g : Fault) → IsSayFault g end → SaysBody texts None end before now
     at_end fault.Failed e = subst (λ (s : End). SaysBody texts None s before now) (sym e) part
@@ -208,7 +208,7 @@ same_outcome by_name (Some names) end end' lines lines' a b = one_outcome by_nam
 pub same_whole : (by_name : Texts) (asked : Option TextNames) (end end' : End) (lines lines' : List (List ℕ)) → WouldSay (Some by_name) asked end lines → WouldSay (Some by_name) asked end' lines' → SameEnd end end' lines lines'
 same_whole by_name asked end end' lines lines' a b =
     let same = same_outcome by_name asked end end' a.body b.body a.comes b.comes in
-    record { ends = same.ends; says = a.is ∙ (ap (λ (ls : List (List ℕ)). ls ++ status_line (status_of end) ∷ []) same.says ∙ (ap (λ (e : End). b.body ++ status_line (status_of e) ∷ []) same.ends ∙ sym b.is)) }
+    record { ends = same.ends; says = a.whole ∙ (ap (λ (ls : List (List ℕ)). ls ++ status_line (status_of end) ∷ []) same.says ∙ (ap (λ (e : End). b.body ++ status_line (status_of e) ∷ []) same.ends ∙ sym b.whole)) }
 
 -- a front of the body is a front of the whole
 front_of_body : (texts : Option Texts) (asked : Option TextNames) (front : List (List ℕ)) → IsFrontOfBody texts asked front → IsFrontOfAll texts asked front
@@ -216,20 +216,20 @@ front_of_body texts None front is = record { rest = is.rest ++ status_line statu
 front_of_body None (Some names) front is = tt
 front_of_body (Some by_name) (Some names) front is = λ end lines would.
     let body = is end would.body would.comes in
-    record { rest = body.rest ++ status_line (status_of end) ∷ []; splits = would.is ∙ (ap (λ (ls : List (List ℕ)). ls ++ status_line (status_of end) ∷ []) body.splits ∙ append_assoc front body.rest (status_line (status_of end) ∷ [])) }
+    record { rest = body.rest ++ status_line (status_of end) ∷ []; splits = would.whole ∙ (ap (λ (ls : List (List ℕ)). ls ++ status_line (status_of end) ∷ []) body.splits ∙ append_assoc front body.rest (status_line (status_of end) ∷ [])) }
 
 -- a front of one whole is a front of every whole
 front_of_whole : (texts : Option Texts) (asked : Option TextNames) (end : End) (lines front : List (List ℕ)) → WouldSay texts asked end lines → IsFront front lines → IsFrontOfAll texts asked front
 front_of_whole texts None end lines front would is = record { rest = is.rest; splits = usage would ∙ is.splits }
   where
     usage : (w : WouldSay texts None end lines) → usage_line ∷ status_line status.Usage ∷ [] ≡ lines
-    usage w = sym (w.is ∙ (ap (λ (ls : List (List ℕ)). ls ++ status_line (status_of end) ∷ []) w.comes.1 ∙ ap (λ (e : End). usage_line ∷ status_line (status_of e) ∷ []) w.comes.0))
+    usage w = sym (w.whole ∙ (ap (λ (ls : List (List ℕ)). ls ++ status_line (status_of end) ∷ []) w.comes.1 ∙ ap (λ (e : End). usage_line ∷ status_line (status_of e) ∷ []) w.comes.0))
 front_of_whole None (Some names) end lines front would is = tt
 front_of_whole (Some by_name) (Some names) end lines front would is = λ other others other_would. record { rest = is.rest; splits = sym (same_whole by_name (Some names) end other lines others would other_would).says ∙ is.splits }
 
 -- all that was to be said was said, and the last line, or a front of it
 whole_of : (texts : Option Texts) (asked : Option TextNames) (end : End) (before mid : Option (List (List ℕ))) (body : SaidBody texts asked end before mid) → WouldSay texts asked end (body.lines ++ status_line (status_of end) ∷ [])
-whole_of texts asked end before mid body = record { body = body.lines; comes = body.comes; is = refl }
+whole_of texts asked end before mid body = record { body = body.lines; comes = body.comes; whole = refl }
 
 said_all : (texts : Option Texts) (asked : Option TextNames) (end : End) (before mid now : Option (List (List ℕ))) → SaidBody texts asked end before mid → now ≡ told_more (status_line (status_of end) ∷ []) mid → SaidAll texts asked end before now
 said_all texts asked end before mid now body said = record {
@@ -241,7 +241,7 @@ said_all texts asked end before mid now body said = record {
 said_front : (texts : Option Texts) (asked : Option TextNames) (unread : Type 0) (end : End) (before mid now : Option (List (List ℕ))) → SaidBody texts asked end before mid → GrewByFront (status_line (status_of end) ∷ []) mid now → SaidSome texts asked unread before now
 said_front texts asked unread end before mid now body said =
     let grew = front_second body.lines (status_line (status_of end) ∷ []) before mid now body.said said in
-    record { front = grew.front; said = grew.grew; is = inl (front_of_whole texts asked end (body.lines ++ status_line (status_of end) ∷ []) grew.front (whole_of texts asked end before mid body) (record { rest = grew.rest; splits = grew.splits })) }
+    record { front = grew.front; said = grew.grew; in_front = inl (front_of_whole texts asked end (body.lines ++ status_line (status_of end) ∷ []) grew.front (whole_of texts asked end before mid body) (record { rest = grew.rest; splits = grew.splits })) }
 
 -- at a fault of saying or want of memory there is only a front
 at_fault : (texts : Option Texts) (asked : Option TextNames) (unread : Type 0) (end : End) (before now : Option (List (List ℕ))) → (end ≡ how.SayFault) ⊎ (end ≡ how.NoMemory) → SaidSome texts asked unread before now → Says texts asked unread end before now
@@ -256,10 +256,10 @@ with_file_fault : (texts : Option Texts) (asked : Option TextNames) (unread : Ty
 with_file_fault texts asked unread result before mid now rose same (inl said) = subst (λ (s : End). Says texts asked unread s before now) (sym said.0) (said.1 ∙ ap (λ (t : Option (List (List ℕ))). told_more (status_line status.FileFault ∷ []) t) same)
 with_file_fault texts asked unread result before mid now rose same (inr short) =
     let grew = subst (λ (t : Option (List (List ℕ))). GrewByFront (status_line status.FileFault ∷ []) t now) same short.1 in
-    at_fault texts asked unread result before now short.0 (record { front = grew.front; said = grew.grew; is = inr (rose, record { rest = grew.rest; splits = grew.splits }) })
+    at_fault texts asked unread result before now short.0 (record { front = grew.front; said = grew.grew; in_front = inr (rose, record { rest = grew.rest; splits = grew.splits }) })
 
 with_part : (texts : Option Texts) (asked : Option TextNames) (unread : Type 0) (before mid now : Option (List (List ℕ))) → SaidPart texts asked before mid → now ≡ mid → SaidSome texts asked unread before now
-with_part texts asked unread before mid now part same = record { front = part.front; said = same ∙ part.said; is = inl (front_of_body texts asked part.front part.is) }
+with_part texts asked unread before mid now part same = record { front = part.front; said = same ∙ part.said; in_front = inl (front_of_body texts asked part.front part.in_front) }
 
 pub says_last : (texts : Option Texts) (asked : Option TextNames) (unread : Type 0) (end result : End) (before mid now : Option (List (List ℕ))) → (end ≡ how.FileFault → unread) → SaysBody texts asked end before mid → SaysLast end result mid now → Says texts asked unread result before now
 says_last texts asked unread how.Ok result before mid now rose body last = with_status texts asked unread how.Ok result before mid now (λ all. all) body last
@@ -299,12 +299,12 @@ says_written texts asked unread last result before now rose says (inl e) = subst
 says_written texts asked unread last result before now rose says (inr e) = subst (λ (s : End). Says texts asked unread s before now) (sym e) (some last rose says)
   where
     whole : (end : End) → SaidAll texts asked end before now → SaidSome texts asked unread before now
-    whole end all = record { front = all.lines; said = all.said; is = inl (front_of_whole texts asked end all.lines all.lines all.would (record { rest = []; splits = sym (append-nil all.lines) })) }
+    whole end all = record { front = all.lines; said = all.said; in_front = inl (front_of_whole texts asked end all.lines all.lines all.would (record { rest = []; splits = sym (append-nil all.lines) })) }
 
     some : (end : End) → (end ≡ how.FileFault → unread) → Says texts asked unread end before now → SaidSome texts asked unread before now
     some how.Ok r all = whole how.Ok all
     some how.Usage r all = whole how.Usage all
-    some how.FileFault r said = record { front = status_line status.FileFault ∷ []; said = said; is = inr (r refl, record { rest = []; splits = refl }) }
+    some how.FileFault r said = record { front = status_line status.FileFault ∷ []; said = said; in_front = inr (r refl, record { rest = []; splits = refl }) }
     some how.SayFault r part = part
     some (how.Unbuilt line) r all = whole (how.Unbuilt line) all
     some how.NoMemory r part = part
@@ -321,7 +321,7 @@ says_only (Some by_name) asked unread (how.Unbuilt line) before now says = λ ot
 says_only (Some by_name) asked unread how.NoMemory before now says = λ other lines would. inr (inr (inr refl))
 
 ends_in_status : (texts : Option Texts) (asked : Option TextNames) (end : End) (before now : Option (List (List ℕ))) → SaidAll texts asked end before now → (body : List (List ℕ)) × (now ≡ told_more (body ++ status_line (status_of end) ∷ []) before)
-ends_in_status texts asked end before now all = (all.would.body, all.said ∙ ap (λ (ls : List (List ℕ)). told_more ls before) all.would.is)
+ends_in_status texts asked end before now all = (all.would.body, all.said ∙ ap (λ (ls : List (List ℕ)). told_more ls before) all.would.whole)
 
 pub says_status : (texts : Option Texts) (asked : Option TextNames) (unread : Type 0) (end : End) (before now : Option (List (List ℕ))) → Says texts asked unread end before now → EndsWithStatus (status_of end) before now
 says_status texts asked unread how.Ok before now says = inl (ends_in_status texts asked how.Ok before now says)

@@ -309,7 +309,7 @@ abbrev opened_events : List ℕ → List Event
 opened_events stream = Opened 1 0 (stream_plan stream ∷ []) ∷ Saved (store_text stream None) ∷ []
 
 opened_safe : (stream : List ℕ) → IsSafeEven stream [] (opened_events stream)
-opened_safe stream = save_more stream [] (Opened 1 0 (stream_plan stream ∷ []) ∷ []) (store_text stream None) (neutral_more stream [] [] (Opened 1 0 (stream_plan stream ∷ [])) opened_neutral (none_safe stream)) (inl (record { first = refl; is = refl }))
+opened_safe stream = save_more stream [] (Opened 1 0 (stream_plan stream ∷ []) ∷ []) (store_text stream None) (neutral_more stream [] [] (Opened 1 0 (stream_plan stream ∷ [])) opened_neutral (none_safe stream)) (inl (record { first = refl; text_is = refl }))
   where
     opened_neutral : IsNeutral (Opened 1 0 (stream_plan stream ∷ []))
     opened_neutral = record { plain = record { no_start = λ plan e. cc; no_save = λ t e. cc }; goes_on = λ events. refl; not_read = refl; not_given = refl }
@@ -442,7 +442,7 @@ saves_state stream line echo taken_lines state are fits = record {
   taken = states_behind [] (passed_in taken_lines);
   last = record { state = state; before = records_in taken_lines };
   takes = subst (λ (ls : List (List ℕ)). Takes ls (states_behind [] (passed_in (and_state taken_lines line state echo))) (states_behind [] (passed_in taken_lines) ++ record { state = state; before = records_in taken_lines } ∷ [])) (sym got) (subst (λ (ss : List ReadState). Takes (echoes_of (and_state taken_lines line state echo)) (states_behind [] (passed_in (and_state taken_lines line state echo))) ss) states (takes_all stream none_counted (and_state taken_lines line state echo) [] are_all));
-  is = refl;
+  text_is = refl;
   committed = each_row (flat_map rows_of (attempt (first_events stream ++ (all_taken_events stream none_counted taken_lines ++ front_of_state line echo)))) state 0 (records_in taken_lines) (λ row within. subst (λ (rows : List RawRow). Contains rows row) (sym rows_are) within);
 }
   where

@@ -65,10 +65,10 @@ takes_other stream text line at end number records since events events' is_over 
       rest = lines_of (drop end text);
       next = next;
       fits = over.fits;
-      is = over.is;
+      said_is = over.said_is;
       after = ap (λ (es : List Event). world_of stream text end (number + 1) records since es is_over) added;
     }
 
 pub refuses : (stream text line : List ℕ) (at end number records since : ℕ) (events : List Event) (is_over : Bool) (old : World) → world_of stream text at number records since events is_over ≡ old → lines_of (drop at text) ≡ line ∷ lines_of (drop end text) → IsUnbuilt stream since line → Refuses old (number + 1)
 refuses stream text line at end number records since events is_over old view next unbuilt =
-    subst (λ (w : World). Refuses w (number + 1)) view record { line = line; rest = lines_of (drop end text); next = next; unbuilt = unbuilt; is = refl }
+    subst (λ (w : World). Refuses w (number + 1)) view record { line = line; rest = lines_of (drop end text); next = next; unbuilt = unbuilt; number_is = refl }

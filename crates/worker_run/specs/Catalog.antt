@@ -31,4 +31,4 @@ pub record IsCatalog (text name : List ℕ) : Type 0 where
   pub field : HasField text (codes "streams") streams
   pub entry : List ℕ
   pub single : streams ≡ one_entry entry
-  pub is : IsEntry entry name
+  pub holds : IsEntry entry name

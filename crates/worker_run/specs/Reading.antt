@@ -89,7 +89,7 @@ pub record IsAttempt (text stream : List ℕ) (end : End) (lines : List (List �
 -- an attempt over this text has ended so, and its lines were said
 pub record Attempted (text stream : List ℕ) (end : End) (before now : Option (List (List ℕ))) : Type 0 where
   pub lines : List (List ℕ)
-  pub is : IsAttempt text stream end lines
+  pub attempt : IsAttempt text stream end lines
   pub said : now ≡ told_more lines before
 
 -- the whole begins with this front
@@ -101,7 +101,7 @@ pub record IsFront (front whole : List (List ℕ)) : Type 0 where
 pub record StopsShort (text stream : List ℕ) (before now : Option (List (List ℕ))) : Type 0 where
   pub front : List (List ℕ)
   pub said : now ≡ told_more front before
-  pub is : (end : End) (lines : List (List ℕ)) → IsAttempt text stream end lines → IsFront front lines
+  pub in_front : (end : End) (lines : List (List ℕ)) → IsAttempt text stream end lines → IsFront front lines
 
 -- the text has this name, where the texts are told
 abbrev pub HasTextNamed : Option Texts → List ℕ → List ℕ → Type 0
@@ -153,7 +153,7 @@ ComesTo texts (Some names) end lines = LacksText texts names end lines ⊎ (Refu
 pub record WouldSay (texts : Option Texts) (asked : Option TextNames) (end : End) (lines : List (List ℕ)) : Type 0 where
   pub body : List (List ℕ)
   pub comes : ComesTo texts asked end body
-  pub is : lines ≡ body ++ status_line (status_of end) ∷ []
+  pub whole : lines ≡ body ++ status_line (status_of end) ∷ []
 
 -- what was said is a front of whatever these words and texts come to, where the texts that are asked for are told
 abbrev pub IsFrontOfBody : Option Texts → Option TextNames → List (List ℕ) → Type 0
@@ -176,7 +176,7 @@ pub record SaidBody (texts : Option Texts) (asked : Option TextNames) (end : End
 pub record SaidPart (texts : Option Texts) (asked : Option TextNames) (before now : Option (List (List ℕ))) : Type 0 where
   pub front : List (List ℕ)
   pub said : now ≡ told_more front before
-  pub is : IsFrontOfBody texts asked front
+  pub in_front : IsFrontOfBody texts asked front
 
 -- what was said before the last line, at each end
 abbrev pub SaysBody : Option Texts → Option TextNames → End → Option (List (List ℕ)) → Option (List (List ℕ)) → Type 0
@@ -197,7 +197,7 @@ pub record SaidAll (texts : Option Texts) (asked : Option TextNames) (end : End)
 pub record SaidSome (texts : Option Texts) (asked : Option TextNames) (unread : Type 0) (before now : Option (List (List ℕ))) : Type 0 where
   pub front : List (List ℕ)
   pub said : now ≡ told_more front before
-  pub is : IsFrontOfAll texts asked front ⊎ (unread × IsFront front (status_line status.FileFault ∷ []))
+  pub in_front : IsFrontOfAll texts asked front ⊎ (unread × IsFront front (status_line status.FileFault ∷ []))
 
 -- What a run said, at each end. `unread`: reading a text failed.
 abbrev pub Says : Option Texts → Option TextNames → Type 0 → End → Option (List (List ℕ)) → Option (List (List ℕ)) → Type 0
@@ -248,7 +248,7 @@ EndsWithoutCommand end = (end ≡ how.Usage) ⊎ ((end ≡ how.SayFault) ⊎ (en
 -- a run ended so, with this status, and said its lines
 pub record EndsAndSays (texts : Option Texts) (asked : Option TextNames) (unread : Type 0) (result : Status) (before now : Option (List (List ℕ))) : Type 0 where
   pub end : End
-  pub is : result ≡ status_of end
+  pub answer : result ≡ status_of end
   pub says : Says texts asked unread end before now
 
 -- a fault of saying, or want of memory

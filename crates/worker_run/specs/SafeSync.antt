@@ -110,7 +110,7 @@ pub record StartsSafely (stream : List ℕ) (before : List Event) (plan : Attemp
 -- the store's text before any state
 pub record SavesNothing (stream : List ℕ) (before : List Event) (text : List ℕ) : Type 0 where
   pub first : filter_map saved_text before ≡ []
-  pub is : text ≡ store_text stream None
+  pub text_is : text ≡ store_text stream None
 
 -- The text holds the state that the last echo takes, and each record that it covers and that was read before it stands
 -- committed in this attempt, as the row of its own line with its number.
@@ -120,7 +120,7 @@ pub record SavesTaken (stream : List ℕ) (before : List Event) (text : List ℕ
   pub taken : List ReadState
   pub last : ReadState
   pub takes : Takes (filter_map got_line (attempt before)) (states_behind [] passed) (taken ++ last ∷ [])
-  pub is : text ≡ store_text stream (Some last.state.object)
+  pub text_is : text ≡ store_text stream (Some last.state.object)
   pub committed : AllByRecursion (λ numbered. Covers last.state numbered.1 → Contains (flat_map rows_of (attempt before)) (row_of numbered.0 numbered.1)) (enumerate_from 0 last.before)
 
 -- the lines that were given are a prefix of those that are passed on

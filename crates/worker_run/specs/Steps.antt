@@ -28,7 +28,7 @@ pub record IsFitState (stream : List ℕ) (since : ℕ) (line : List ℕ) (state
 pub record PassesOver (line : List ℕ) (said : Option (List ℕ)) : Type 0 where
   pub found : Option Message
   pub fits : FitsOther line found
-  pub is : said ≡ said_of_line line found
+  pub said_is : said ≡ said_of_line line found
 
 -- what a line was judged to be
 abbrev pub IsJudged : List ℕ → ℕ → List ℕ → Judged → Type 0
@@ -96,7 +96,7 @@ pub record TakesOther (old : World) (said : Option (List ℕ)) (new : World) : T
   pub rest : List (List ℕ)
   pub next : old.lines ≡ line ∷ rest
   pub fits : FitsOther line found
-  pub is : said ≡ said_of_line line found
+  pub said_is : said ≡ said_of_line line found
   pub after : new ≡ took old (other_line line found) rest
 
 -- the next line has this number and is not taken
@@ -105,7 +105,7 @@ pub record Refuses (old : World) (number : ℕ) : Type 0 where
   pub rest : List (List ℕ)
   pub next : old.lines ≡ line ∷ rest
   pub unbuilt : IsUnbuilt old.stream old.counted.since line
-  pub is : number ≡ old.number + 1
+  pub number_is : number ≡ old.number + 1
 
 -- no line is left, and the attempt has ended
 pub record Ends (old new : World) : Type 0 where
