@@ -93,6 +93,13 @@ fn values_are_found_at_their_paths(rt: HostRuntime) -> Result<(), Fail> {
             true,
             "@-1",
         ),
+        // A leap second counts as the second before it.
+        (
+            r#"{"k":"2016-12-31T23:59:60Z"}"#,
+            ["k", ""],
+            true,
+            "@1483228799000000000",
+        ),
         (r#"{"k":"soon"}"#, ["k", ""], true, "\"4:soon"),
         (r#"{"k":7}"#, ["k", ""], true, "#7e0"),
         (r#"{ "k" : 1 }"#, ["", ""], false, "?7:{\"k\":1}"),
