@@ -1,0 +1,9 @@
+//! What a load may be: a safe destination, an honest attempt, a run of the write engine, and the machine behind it.
+#![tactic(auto)]
+
+mod laws;
+
+pub use laws::{
+    echoes_read_back, fronts_are_runs, fronts_are_safe, no_state_is_left, order_is_free,
+    pipes_are_honest, prefixes_fit, rows_are_own, runs_are_safe, sealed_in_front, stays_safe,
+};
