@@ -1,9 +1,10 @@
 -- What every change of a pool keeps.
-use Rattle.std.proofs.Common.{arith, ◌≡◌, ℕ, ◌+◌, ◌<◌, ◌≤◌, List, [], ◌∷◌, ◌++◌, length, true, false, refl, sym, ◌∙◌, inl, inr, ◌⊎◌, All, Option, None, Some, ◌-◌, ◌&&◌, nat_lt, suc, length-append}
+use Rattle.std.proofs.Common.{arith, ◌≡◌, ℕ, ◌+◌, ◌<◌, ◌≤◌, List, [], ◌∷◌, ◌++◌, length, true, false, refl, sym, ◌∙◌, inl, inr, ◌⊎◌, Option, None, Some, ◌-◌, ◌&&◌, nat_lt, length-append}
+use Rattle.std.specs.List.{AllByRecursion}
 use Rattle.std.proofs.lemmas.Bool.{cases_Bool}
 use Rattle.std.proofs.lemmas.List.Sums.{sum_by-cons, sum_by_push}
 use Rattle.buffer_pool.specs.declared.slot.Slot.{Slot}
-use Rattle.buffer_pool.specs.Content.{first_of, detached_for, with_front_detached, RiseFrom, bytes_of, is_in_chain, is_queued_of, with_chain, with_restored, without_chain, IsPool}
+use Rattle.buffer_pool.specs.Content.{first_of, detached_for, with_front_detached, RiseFrom, bytes_of, is_in_chain, is_queued_of, with_chain, with_restored, without_chain, AreNamed, IsPool}
 
 abbrev line_length : Slot → ℕ
 line_length slot = length slot.line
@@ -42,7 +43,7 @@ alike_restored chain (slot ∷ more) = at (alike_restored chain more) (cases_Boo
     at rest (inl is) = rw is (refl, refl, rest)
     at rest (inr is) = rw is (refl, refl, rest)
 
-alike_rise : (low : ℕ) (held others : List Slot) → AreAlike held others → RiseFrom low held → RiseFrom low others
+pub alike_rise : (low : ℕ) (held others : List Slot) → AreAlike held others → RiseFrom low held → RiseFrom low others
 alike_rise low [] [] alike rise = tt
 alike_rise low [] (other ∷ others) alike rise = absurd alike
 alike_rise low (slot ∷ more) [] alike rise = absurd alike
@@ -60,27 +61,45 @@ alike_bytes [] (other ∷ others) alike = absurd alike
 alike_bytes (slot ∷ more) [] alike = absurd alike
 alike_bytes (slot ∷ more) (other ∷ others) alike = let rest = alike_bytes more others alike.2 in sum_by-cons line_length slot more ∙ (let same = sum_by-cons line_length other others in omega (arith, rest, alike.1, same))
 
-pub alike_pool : (held others : List Slot) (slots bytes sum : ℕ) → AreAlike held others → IsPool held slots bytes sum → IsPool others slots bytes sum
-alike_pool held others slots bytes sum alike pool = record {
+alike_below : (next : ℕ) (held others : List Slot) → AreAlike held others → AllByRecursion (λ slot. slot.seq < next) held → AllByRecursion (λ slot. slot.seq < next) others
+alike_below next [] [] alike all = tt
+alike_below next [] (other ∷ others) alike all = absurd alike
+alike_below next (slot ∷ more) [] alike all = absurd alike
+alike_below next (slot ∷ more) (other ∷ others) alike all = (omega (arith, alike.0, all.0), alike_below next more others alike.2 all.1)
+
+pub alike_pool : (held others : List Slot) (slots bytes sum next : ℕ) → AreAlike held others → AreNamed others others → IsPool held slots bytes sum next → IsPool others slots bytes sum next
+alike_pool held others slots bytes sum next alike named pool = record {
   rise = alike_rise 0 held others alike pool.rise;
   few = rw (sym (alike_length held others alike)) pool.few;
   sum_is = rw (sym (alike_bytes held others alike)) pool.sum_is;
   small = rw (sym (alike_bytes held others alike)) pool.small;
+  below = alike_below next held others alike pool.below;
+  named = named;
 }
 
-rise_push : (low : ℕ) (held : List Slot) (slot : Slot) → RiseFrom low held → low ≤ slot.seq → All (λ other. other.seq < slot.seq) held → RiseFrom low (held ++ slot ∷ [])
+rise_push : (low : ℕ) (held : List Slot) (slot : Slot) → RiseFrom low held → low ≤ slot.seq → AllByRecursion (λ other. other.seq < slot.seq) held → RiseFrom low (held ++ slot ∷ [])
 rise_push low [] slot rise above all = (above, tt)
-rise_push low (other ∷ more) slot rise above all = (rise.0, rise_push (other.seq + 1) more slot rise.1 (let first = all 0 other (omega arith) in omega (arith, first)) (λ k d within. all (suc k) d (omega (arith, within))))
+rise_push low (other ∷ more) slot rise above all = (rise.0, rise_push (other.seq + 1) more slot rise.1 (omega (arith, all.0)) all.1)
 
 bytes_push : (held : List Slot) (slot : Slot) → bytes_of (held ++ slot ∷ []) ≡ bytes_of held + length slot.line
 bytes_push held slot = sum_by_push line_length held slot
 
-pub push_pool : (held : List Slot) (slot : Slot) (slots bytes sum : ℕ) → IsPool held slots bytes sum → All (λ other. other.seq < slot.seq) held → length held < slots → sum + length slot.line ≤ bytes → IsPool (held ++ slot ∷ []) slots bytes (sum + length slot.line)
-push_pool held slot slots bytes sum pool above free fits = record {
-  rise = rise_push 0 held slot pool.rise (omega arith) above;
+pub below_next : (next seq : ℕ) (held : List Slot) → next ≤ seq → AllByRecursion (λ slot. slot.seq < next) held → AllByRecursion (λ slot. slot.seq < seq) held
+below_next next seq [] above all = tt
+below_next next seq (slot ∷ more) above all = (omega (arith, above, all.0), below_next next seq more above all.1)
+
+below_push : (next : ℕ) (slot : Slot) (held : List Slot) → next ≤ slot.seq → AllByRecursion (λ other. other.seq < next) held → AllByRecursion (λ other. other.seq < slot.seq + 1) (held ++ slot ∷ [])
+below_push next slot [] above all = (omega arith, tt)
+below_push next slot (other ∷ more) above all = (omega (arith, above, all.0), below_push next slot more above all.1)
+
+pub push_pool : (held : List Slot) (slot : Slot) (slots bytes sum next : ℕ) → IsPool held slots bytes sum next → next ≤ slot.seq → length held < slots → sum + length slot.line ≤ bytes → AreNamed (held ++ slot ∷ []) (held ++ slot ∷ []) → IsPool (held ++ slot ∷ []) slots bytes (sum + length slot.line) (slot.seq + 1)
+push_pool held slot slots bytes sum next pool above free fits named = record {
+  rise = rise_push 0 held slot pool.rise (omega arith) (below_next next slot.seq held above pool.below);
   few = let longer = length-append held (slot ∷ []) in omega (arith, longer, free);
   sum_is = let more = bytes_push held slot in omega (arith, more, pool.sum_is);
   small = let more = bytes_push held slot in omega (arith, more, pool.sum_is, fits);
+  below = below_push next slot held above pool.below;
+  named = named;
 }
 
 rise_lower : (low low' : ℕ) (held : List Slot) → low' ≤ low → RiseFrom low held → RiseFrom low' held
@@ -103,10 +122,20 @@ length_without chain (slot ∷ more) = at (length_without chain more) (cases_Boo
     at rest (inl is) = rw is (omega (arith, rest))
     at rest (inr is) = rw is (omega (arith, rest))
 
-pub free_pool : (chain freed : ℕ) (held : List Slot) (slots bytes sum : ℕ) → IsPool held slots bytes sum → freed + bytes_of (without_chain chain held) ≡ bytes_of held → IsPool (without_chain chain held) slots bytes (sum - freed)
-free_pool chain freed held slots bytes sum pool is = record {
+below_without : (chain next : ℕ) (held : List Slot) → AllByRecursion (λ slot. slot.seq < next) held → AllByRecursion (λ slot. slot.seq < next) (without_chain chain held)
+below_without chain next [] all = tt
+below_without chain next (slot ∷ more) all = at (below_without chain next more all.1) (cases_Bool (is_in_chain chain slot))
+  where
+    at : AllByRecursion (λ other. other.seq < next) (without_chain chain more) → (is_in_chain chain slot ≡ true) ⊎ (is_in_chain chain slot ≡ false) → AllByRecursion (λ other. other.seq < next) (without_chain chain (slot ∷ more))
+    at rest (inl is) = rw is rest
+    at rest (inr is) = rw is (all.0, rest)
+
+pub free_pool : (chain freed : ℕ) (held : List Slot) (slots bytes sum next : ℕ) → IsPool held slots bytes sum next → freed + bytes_of (without_chain chain held) ≡ bytes_of held → AreNamed (without_chain chain held) (without_chain chain held) → IsPool (without_chain chain held) slots bytes (sum - freed) next
+free_pool chain freed held slots bytes sum next pool is named = record {
   rise = rise_without chain 0 held pool.rise;
   few = let fewer = length_without chain held in omega (arith, fewer, pool.few);
   sum_is = omega (arith, is, pool.sum_is);
   small = omega (arith, is, pool.small);
+  below = below_without chain next held pool.below;
+  named = named;
 }

@@ -1,5 +1,6 @@
 -- What a pool holds.
 use Rattle.std.specs.Prelude.{◌≡◌, ℕ, ◌+◌, ◌-◌, ◌<◌, ◌≤◌, ◌==◌, List, [], ◌∷◌, ◌++◌, map, filter, find, length, sum_by, Bool, true, false, ◌&&◌, not, nat_lt, if◌then◌else◌, Option, None, Some, option_map, take, drop, slice_index_or}
+use Rattle.std.specs.List.{AllByRecursion, list_any}
 use Rattle.buffer_pool.specs.declared.slot.Slot.{Slot}
 use Rattle.outside.specs.declared.line.SeqLine.{SeqLine}
 
@@ -11,6 +12,8 @@ pub record PoolView : Type 0 where
   -- how many records, and how many bytes of them, it may hold
   pub slots : ℕ
   pub bytes : ℕ
+  -- above the sequences of all records that were ever pushed
+  pub next : ℕ
 
 -- sequences rise, from this one on
 abbrev pub RiseFrom : ℕ → List Slot → Type 0
@@ -92,12 +95,26 @@ with_restored chain held = map (released chain) held
 abbrev pub without_chain : ℕ → List Slot → List Slot
 without_chain chain held = filter (λ slot. not (is_in_chain chain slot)) held
 
+-- a record whose sequence names a chain, and that does not stand in it
+abbrev pub stands_apart : ℕ → Slot → Bool
+stands_apart chain slot = (slot.seq == chain) && not (is_in_chain chain slot)
+
+-- a chain's number is the sequence of a record of its own, or of none that is held, and none of its records is older
+abbrev pub IsNamed : List Slot → ℕ → Option ℕ → Type 0
+IsNamed held seq None = Unit {0}
+IsNamed held seq (Some chain) = (chain ≤ seq) × (list_any (stands_apart chain) held ≡ false)
+
+abbrev pub AreNamed : List Slot → List Slot → Type 0
+AreNamed held part = AllByRecursion (λ slot. IsNamed held slot.seq slot.chain) part
+
 -- what a pool keeps
-pub record IsPool (held : List Slot) (slots bytes sum : ℕ) : Type 0 where
+pub record IsPool (held : List Slot) (slots bytes sum next : ℕ) : Type 0 where
   pub rise : RiseFrom 0 held
   pub few : length held ≤ slots
   pub sum_is : sum ≡ bytes_of held
   pub small : bytes_of held ≤ bytes
+  pub below : AllByRecursion (λ slot. slot.seq < next) held
+  pub named : AreNamed held held
 
 -- a stream's queue begins there
 pub record IsFrontAt (stream : ℕ) (held : List Slot) (index : ℕ) : Type 0 where

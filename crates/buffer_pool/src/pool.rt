@@ -1,5 +1,5 @@
 // A pool of records that wait.
-ghost use Rattle.std.specs.Prelude.{◌≡◌, ℕ, ◌+◌, ◌<◌, ◌≤◌, ◌^◌, [], ◌∷◌, ◌++◌, ◌↔◌, drop, length, take, None, All, IfErr, IfNone, IfOk, IfSome, IsOk, OnOk, vec_capacity};
+ghost use Rattle.std.specs.Prelude.{◌≡◌, ℕ, ◌+◌, ◌-◌, ◌<◌, ◌≤◌, ◌^◌, [], ◌∷◌, ◌++◌, ◌↔◌, drop, length, take, None, IfErr, IfNone, IfOk, IfSome, IsOk, OnOk, vec_capacity};
 ghost use Rattle.buffer_pool.specs.Content.{HasRoom, IsFrontAt, PoolView, RiseFrom, bytes_of, chain_of, first_of, is_in_chain, is_queued_of, oldest_of, queue_of, queued, released, with_chain, with_front_detached, with_restored, without_chain};
 
 use crate::{Chain, Slot};
@@ -18,6 +18,8 @@ pub struct Pool {
     bytes: u64,
     // The bytes of all records that are held.
     sum: u64,
+    // Above the sequences of all records that were ever pushed.
+    next: u64,
 }
 
 impl Model for Pool {
@@ -26,9 +28,9 @@ impl Model for Pool {
 
     ghost Value = { PoolView };
 
-    ghost view = { λ pool. record { held = pool.held.items; streams = pool.streams; slots = pool.slots; bytes = pool.bytes } };
+    ghost view = { λ pool. record { held = pool.held.items; streams = pool.streams; slots = pool.slots; bytes = pool.bytes; next = pool.next } };
 
-    ghost invariant = { λ pool. IsPool pool.held.items pool.slots pool.bytes pool.sum × (pool.slots ≤ vec_capacity pool.held) };
+    ghost invariant = { λ pool. IsPool pool.held.items pool.slots pool.bytes pool.sum pool.next × (pool.slots ≤ vec_capacity pool.held) };
 }
 
 fn is_in(slot: &Slot, chain: u64) -> bool
@@ -148,7 +150,7 @@ fn oldest_in(held: &[Slot]) -> Option<StreamNo>
 impl Pool {
     /// An empty pool for so many streams, records and bytes.
     pub fn new(alloc: Global, streams: u32, slots: u32, bytes: u64) -> Result<Self, NoMemory>
-        ensures { IfOk result (λ pool. pool ≡ record { held = []; streams = streams; slots = slots; bytes = bytes }) }
+        ensures { IfOk result (λ pool. pool ≡ record { held = []; streams = streams; slots = slots; bytes = bytes; next = 0 }) }
     {
         Ok(Pool {
             held: Vec::with_capacity(alloc, slots as usize)?,
@@ -156,16 +158,32 @@ impl Pool {
             slots,
             bytes,
             sum: 0,
+            next: 0,
         })
     }
 
-    /// Puts a record behind its stream's queue. The line comes back exactly where no slot is free, or its bytes would
+    /// Of how many streams there are queues.
+    pub fn streams(&self) -> u32
+        ensures { result ≡ self.now.streams }
+    {
+        self.streams
+    }
+
+    /// A sequence above those of all records that were ever pushed.
+    pub fn next(&self) -> u64
+        ensures { result ≡ self.now.next }
+    {
+        self.next
+    }
+
+    /// Puts a record behind its stream's queue; its sequence is above those of all records before. The line comes back exactly where no slot is free, or its bytes would
     /// pass the bound. It takes no memory.
     pub fn push(&mut self, stream: StreamNo, seq: u64, line: Bytes) -> Result<(), Bytes>
         requires stream { stream < self.old.streams }
-        requires above { All (λ slot. slot.seq < seq) self.old.held }
+        requires above { self.old.next ≤ seq }
+        requires below { seq < 2 ^ 64 - 1 }
         ensures room { IsOk result ↔ HasRoom self.old (length line) }
-        ensures ok { OnOk result (self.new ≡ record (self.old) { held = self.old.held ++ queued stream seq line ∷ [] }) }
+        ensures ok { OnOk result (self.new ≡ record (self.old) { held = self.old.held ++ queued stream seq line ∷ []; next = seq + 1 }) }
         ensures err { IfErr result (λ back. (back ≡ line) × (self.new ≡ self.old)) }
     {
         let bytes = line.len() as u64;
@@ -179,6 +197,7 @@ impl Pool {
             chain: None,
         });
         self.sum += bytes;
+        self.next = seq + 1;
         Ok(())
     }
 
@@ -190,6 +209,7 @@ impl Pool {
         ensures chain { result ≡ first_of stream self.old.held }
         ensures held { self.new ≡ record (self.old) { held = with_front_detached stream max self.old.held } }
         ensures queue { queue_of stream self.new.held ≡ drop max (queue_of stream self.old.held) }
+        ensures records { IfSome result (λ chain. chain_of chain self.new.held ≡ take max (queue_of stream self.old.held)) }
     {
         let from = front_index(&self.held, stream)?;
         let front = self.held[from].seq;

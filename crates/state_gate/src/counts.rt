@@ -14,6 +14,7 @@ pub struct Counts {
     pub of_streams: Vec<u64>,
     /// Of all streams, since the last state of all streams.
     pub of_all: u64,
+    pub streams: u32,
 }
 
 impl Counts {
@@ -21,10 +22,12 @@ impl Counts {
         ensures own { IfOk result (λ counts. counts.of_streams.items ≡ replicate streams 0) }
         ensures len { IfOk result (λ counts. vec_len counts.of_streams ≡ streams) }
         ensures all { IfOk result (λ counts. counts.of_all ≡ 0) }
+        ensures streams { IfOk result (λ counts. counts.streams ≡ streams) }
     {
         Ok(Counts {
             of_streams: vec![in alloc; 0; streams as usize]?,
             of_all: 0,
+            streams,
         })
     }
 
@@ -35,6 +38,7 @@ impl Counts {
         ensures own { self.new.of_streams.items ≡ slice_set self.old.of_streams.items stream (slice_index self.old.of_streams.items stream + 1) }
         ensures len { vec_len self.new.of_streams ≡ vec_len self.old.of_streams }
         ensures all { self.new.of_all ≡ self.old.of_all + 1 }
+        ensures streams { self.new.streams ≡ self.old.streams }
     {
         self.of_streams[stream as usize] += 1;
         self.of_all += 1;
@@ -47,6 +51,7 @@ impl Counts {
         ensures own { self.new.of_streams.items ≡ without_own self.old.of_streams.items lane }
         ensures len { vec_len self.new.of_streams ≡ vec_len self.old.of_streams }
         ensures all { self.new.of_all ≡ without_all self.old.of_all lane }
+        ensures streams { self.new.streams ≡ self.old.streams }
     {
         match lane {
             Lane::Global => mem::replace(&mut self.of_all, 0),

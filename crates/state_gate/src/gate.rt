@@ -28,15 +28,15 @@ pub struct Gate {
 }
 
 impl Model for Gate {
-    ghost use Rattle.std.specs.Prelude.{◌≤◌, ◌+◌, vec_len, vec_capacity};
+    ghost use Rattle.std.specs.Prelude.{◌≡◌, ◌≤◌, ◌+◌, vec_len, vec_capacity};
     ghost use Rattle.state_gate.specs.Content.{Content};
     ghost use Rattle.state_gate.specs.Views.{GateView, InOrder, AreCountsTo};
 
     ghost Value = { GateView };
 
-    ghost view = { λ gate. record { kept = record { uncommitted = gate.uncommitted.items; waiting = gate.waiting.items; since = gate.counts.of_streams.items; since_all = gate.counts.of_all }; streams = vec_len gate.counts.of_streams; next = gate.next; states = gate.states; record_room = gate.record_room; state_room = gate.state_room } };
+    ghost view = { λ gate. record { kept = record { uncommitted = gate.uncommitted.items; waiting = gate.waiting.items; since = gate.counts.of_streams.items; since_all = gate.counts.of_all }; streams = gate.counts.streams; next = gate.next; states = gate.states; record_room = gate.record_room; state_room = gate.state_room } };
 
-    ghost invariant = { λ gate. (vec_len gate.uncommitted + gate.record_room ≤ vec_capacity gate.uncommitted) × (vec_len gate.waiting + gate.state_room ≤ vec_capacity gate.waiting) × InOrder gate.uncommitted.items gate.waiting.items gate.next × AreCountsTo gate.next gate.counts.of_streams.items gate.counts.of_all };
+    ghost invariant = { λ gate. (vec_len gate.uncommitted + gate.record_room ≤ vec_capacity gate.uncommitted) × (vec_len gate.waiting + gate.state_room ≤ vec_capacity gate.waiting) × InOrder gate.uncommitted.items gate.waiting.items gate.next × AreCountsTo gate.next gate.counts.of_streams.items gate.counts.of_all × (vec_len gate.counts.of_streams ≡ gate.counts.streams) };
 }
 
 fn covers(lane: Lane, stream: StreamNo) -> bool
@@ -96,6 +96,27 @@ impl Gate {
         })
     }
 
+    /// Of how many streams there are records.
+    pub fn streams(&self) -> u32
+        ensures { result ≡ self.now.streams }
+    {
+        self.counts.streams
+    }
+
+    /// A sequence above those of all accepted records.
+    pub fn next(&self) -> u64
+        ensures { result ≡ self.now.next }
+    {
+        self.next
+    }
+
+    /// How many states were accepted.
+    pub fn states(&self) -> u64
+        ensures { result ≡ self.now.states }
+    {
+        self.states
+    }
+
     /// Makes room for one more record and for one more state.
     pub fn reserve(&mut self) -> Result<(), NoMemory>
         ensures ok { OnOk result (self.new ≡ record (self.old) { record_room = self.new.record_room; state_room = self.new.state_room }) }
@@ -148,9 +169,9 @@ impl Gate {
         self.state_room -= 1;
     }
 
-    /// These records of a stream are committed.
+    /// These records of a stream are committed. Each was accepted for that stream and is not committed yet, and none
+    /// stands here twice; of other sequences nothing is promised.
     pub fn committed(&mut self, stream: StreamNo, seqs: &[u64])
-        requires { (content : Content) × (Stands content self.old × AreUncommitted content stream seqs.now) }
         ensures view { self.new ≡ record (self.old) { kept = self.new.kept } }
         ensures content { (content : Content) → Stands content self.old → AreUncommitted content stream seqs.now → Stands (with_committed content seqs.now) self.new }
     {

@@ -16,4 +16,5 @@ invariant_of-self c =
       c.self.invariant.1,
       record { records = rw c.push_reserved.ensures.items (records_push _ _ _ _ _ c.self.invariant.2.records above); states = bounds_higher _ c.self.inside.next _ _ (omega (arith, above)) c.self.invariant.2.states },
       rw c.add.ensures.own (rw c.add.ensures.all (counts_add _ _ _ _ _ above c.self.invariant.3)),
+      omega (arith, c.self.invariant.4, c.add.ensures.len, c.add.ensures.streams),
     )

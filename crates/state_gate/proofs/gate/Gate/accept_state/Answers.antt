@@ -10,4 +10,5 @@ invariant_of-self c =
       omega (arith, c.self.invariant.1, c.push_reserved.ensures.len, c.push_reserved.ensures.capacity, room),
       record { records = c.self.invariant.2.records; states = rw c.push_reserved.ensures.items (bounds_push _ _ _ _ c.self.invariant.2.states refl) },
       rw c.take-count.ensures.own (rw c.take-count.ensures.all (counts_take _ _ _ c.args.lane c.self.invariant.3)),
+      omega (arith, c.self.invariant.4, c.take-count.ensures.len, c.take-count.ensures.streams),
     )

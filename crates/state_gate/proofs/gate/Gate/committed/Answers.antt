@@ -8,4 +8,5 @@ invariant_of-self c = (
   c.self.invariant.1,
   record { records = rw c.drop_committed.ensures.items (records_filter _ _ _ _ c.self.invariant.2.records); states = c.self.invariant.2.states },
   c.self.invariant.3,
+  c.self.invariant.4,
 )

@@ -20,6 +20,7 @@ invariant_of-self c =
       omega (arith, c.self.invariant.1, c.remove.ensures.len, c.remove.ensures.capacity),
       record { records = c.self.invariant.2.records; states = subst (λ states. BoundsRise 0 c.self.inside.next states) (rest ∙ sym c.remove.ensures.items) (bounds_without 0 c.self.inside.next (is_clear c.deref.result.now) c.self.inside.waiting.items c.self.invariant.2.states) },
       c.self.invariant.3,
+      c.self.invariant.4,
     )
 
 pub returns-clause-first : goal.returns-clause-first

@@ -1,0 +1,7 @@
+//! Tests of the parts of the write engine, with values that were worked out elsewhere.
+#![tactic(auto)]
+
+#[cfg(test)]
+mod gates;
+#[cfg(test)]
+mod pools;
