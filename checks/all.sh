@@ -1,6 +1,6 @@
 #!/usr/bin/env bash
 # Runs the checks over the worker that the gate has built, or builds it: the program's edge, a file of real messages where
-# that is at hand, and random JSON texts where python3 is. Each check that cannot run says so and is passed over.
+# that is at hand, and random JSON texts and random rows where python3 is. Each check that cannot run says so and is passed over.
 set -u
 cd "$(dirname "${BASH_SOURCE[0]}")/.." || exit 2
 
@@ -16,5 +16,11 @@ if command -v python3 >/dev/null 2>&1; then
     python3 checks/random_objects.py "$worker" || failed=1
 else
     echo "checks: no python3, so no random objects"
+fi
+rows=crates/rows_bench/out/rows_bench
+if [ -x "$rows" ] && command -v python3 >/dev/null 2>&1; then
+    python3 checks/random_values.py "$rows" || failed=1
+else
+    echo "checks: rows_bench was not built, or no python3, so no random values"
 fi
 exit "$failed"

@@ -80,6 +80,7 @@ printf '%s\n' '{"type":"RECORD","record":{"stream":"zz","data":{},"emitted_at":1
 run 'a record of another stream' 60 unbuilt local --messages other --catalog catalog
 printf '%s\n' 'status 60 Unbuilt line 0' >refused
 run 'a catalog of another form' 60 refused local --messages two --catalog two
+run 'a catalog of another form, and missing messages' 60 refused local --messages none --catalog two
 
 # files of several pieces, read whole: above 64 KiB, and above 1 MB
 records 2000 >kilobytes

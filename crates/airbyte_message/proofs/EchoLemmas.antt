@@ -8,7 +8,7 @@ use Rattle.json_fields.specs.Parts.{NestsWithin, Without}
 use Rattle.airbyte_message.specs.Echo.{IsEcho, member_text, echo_text}
 use Rattle.airbyte_message.specs.States.{state_depth}
 use Rattle.json_fields.proofs.OnlyLemmas.{members_same}
-use Rattle.json_fields.proofs.WithoutLemmas.{Without-only}
+use Rattle.json_fields.proofs.KeepsLemmas.{Without-only}
 
 pub state_is_cut : (object shown : List ℕ) → shown ≡ object → NestsWithin state_depth object → ((members : List Member) → ¬ AreMembers line_depth shown members) → ⊥
 state_is_cut object shown e nests none =
@@ -26,10 +26,10 @@ echo_is object shown members kept count start head told named counted whole same
     let all : whole ≡ echo_text shown kept count =
     f ∙ ap (λ (t : List ℕ). t ++ codes "}}}") (e ∙ ap (λ (t : List ℕ). t ++ decimal count) (d ∙ ap (λ (t : List ℕ). t ++ stats) (c ∙ ap (λ (t : List ℕ). t ++ flat_map (member_text shown) kept) front)))
     ∙ in_order (codes "{\"type\":\"STATE\",\"state\":{") (flat_map (member_text shown) kept) stats (decimal count) (codes "}}}") in
-    subst (λ (o : List ℕ). IsEcho o count whole) same (record { members = members; are = cut.are; kept = kept; without = without; is = all })
+    subst (λ (o : List ℕ). IsEcho o count whole) same (record { members = members; are = cut.are; kept = kept; without = without; spelled = all })
 
 pub one_echo : (object : List ℕ) (count : ℕ) (text other : List ℕ) → IsEcho object count text → IsEcho object count other → other ≡ text
 one_echo object count text other a b =
     let members = members_same 127 127 object a.members b.members a.are b.are in
     let kept = Without-only object (codes "destinationStats") a.members a.kept b.kept a.without (subst (λ (ms : List Member). Without object (codes "destinationStats") ms b.kept) members b.without) in
-    b.is ∙ ap (λ (ms : List Member). echo_text object ms count) kept ∙ sym a.is
+    b.spelled ∙ ap (λ (ms : List Member). echo_text object ms count) kept ∙ sym a.spelled

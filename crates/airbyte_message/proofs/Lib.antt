@@ -1,4 +1,6 @@
+pub mod EchoBack
 pub mod EchoLemmas
+pub mod EchoTexts
 pub mod MessageLemmas
 pub mod OneMessage
 pub mod PartLemmas

@@ -202,13 +202,13 @@ moved : (line payload : List ℕ) (type : MessageType) (content : Message) → I
 moved line payload type content typed field is =
     let same = typed.only is.type is.typed in
     let held = subst (λ (t : MessageType). HasField line (payload_text t) is.payload) same is.field in
-    let told = subst (λ (t : MessageType). IsPayload t is.payload content) same is.is in
+    let told = subst (λ (t : MessageType). IsPayload t is.payload content) same is.told in
     subst (λ (p : List ℕ). IsPayload type p content) (field.only is.payload held) told
 
 pub message_answer : (line payload : List ℕ) (type : MessageType) (found : Option Message) → IsOnly (IsLineOf line) type → IsOnly (HasField line (payload_text type)) payload → IsAnswer (IsPayload type payload) found → IsAnswer (IsMessage line) found
 message_answer line payload type None typed field none = λ content is. none content (moved line payload type content typed field is)
 message_answer line payload type (Some told) typed field only = record {
-  is = record { type = type; typed = typed.is; payload = payload; field = field.is; is = only.is };
+  is = record { type = type; typed = typed.is; payload = payload; field = field.is; told = only.is };
   only = λ content is. only.only content (moved line payload type content typed field is);
 }
 

@@ -1,5 +1,5 @@
 -- A line is at most one message: each part of what it is has one value.
-use Rattle.std.proofs.Common.{◌≡◌, ◌⊎◌, inl, inr, ℕ, Bool, true, false, cond, List, [], ◌∷◌, Option, None, Some, bytes_eq, codes, refl, sym, ◌∙◌, ap, subst, arith, ◌≤◌}
+use Rattle.std.proofs.Common.{◌≡◌, inl, inr, ℕ, Bool, true, false, cond, List, [], ◌∷◌, Option, None, Some, bytes_eq, codes, refl, sym, ◌∙◌, ap, subst, arith}
 use Rattle.std.specs.Option.{option_map}
 use Rattle.json_span.specs.Members.{text_at}
 use Rattle.json_span.specs.Elements.{AreElements}
@@ -7,8 +7,8 @@ use Rattle.json_span.specs.Machine.{read_whole}
 use Rattle.json_span.specs.declared.Span.{Span}
 use Rattle.json_span.specs.declared.phase.Frame.TheVariants as frame
 use Rattle.json_span.proofs.ArrayTheorems.{finds_only_array}
-use Rattle.json_fields.specs.Answer.{IsAnswer, IsOnly}
-use Rattle.json_fields.specs.Fields.{HasField, HasOptional, HasText, HasOptionalText, line_depth}
+use Rattle.json_fields.specs.Answer.{IsOnly}
+use Rattle.json_fields.specs.Fields.{HasOptional, HasText, HasOptionalText, line_depth}
 use Rattle.json_fields.proofs.AnswerLemmas.{along_only, at}
 use Rattle.json_fields.proofs.OnlyLemmas.{field_only, optional_only, text_only, optional_text_only, has_count_only, optional_count_only, object_only, array_only, number_only}
 use Rattle.basics.specs.declared.stream.StreamId.{StreamId}
@@ -32,7 +32,7 @@ use Rattle.airbyte_message.specs.declared.read.MessageType.TheVariants as types
 use Rattle.airbyte_message.specs.declared.message.Message.{Message}
 use Rattle.airbyte_message.specs.declared.message.Message.TheVariants as message
 use Rattle.airbyte_message.specs.declared.message.RecordMsg.{RecordMsg}
-use Rattle.airbyte_message.specs.declared.message.StateMsg.{StateMsg}
+use Rattle.airbyte_message.specs.State.{State}
 use Rattle.airbyte_message.specs.declared.message.StateKind.{StateKind}
 use Rattle.airbyte_message.specs.declared.message.StateKind.TheVariants as kind
 use Rattle.airbyte_message.specs.declared.message.StreamBlob.{StreamBlob}
@@ -137,7 +137,7 @@ state_type_is name state_types.Legacy (inr e) = ap state_named e
 
 -- ---- streams
 
-id_only : (text member : List ℕ) (id : StreamId) → IsStreamId text member id → IsOnly (IsStreamId text member) id
+pub id_only : (text member : List ℕ) (id : StreamId) → IsStreamId text member id → IsOnly (IsStreamId text member) id
 id_only text member id is = stream_id_answer text member id.name id.namespace (text_only text member id.name is.name) (optional_text_only text (codes "namespace") id.namespace is.namespace)
 
 descriptor_only : (text : List ℕ) (id : StreamId) → HasDescriptor text id → IsOnly (HasDescriptor text) id
@@ -173,13 +173,13 @@ stats_only text count has = go has.held has.optional has.stats
     go (Some stats) optional s = has_stats text stats (Some count) (optional_only text (codes "sourceStats") (Some stats) optional) (optional_count_only stats (codes "recordCount") count s)
 
 state_type_only : (text : List ℕ) (type : StateType) → HasStateType text type → IsOnly (HasStateType text) type
-state_type_only text type has = state_type_at text has.name (Some type) (optional_text_only text (codes "type") has.name has.optional) (record { is = has.is; only = λ other is. sym (state_type_is has.name other is) ∙ state_type_is has.name type has.is })
+state_type_only text type has = state_type_at text has.name (Some type) (optional_text_only text (codes "type") has.name has.optional) (record { is = has.named; only = λ other is. sym (state_type_is has.name other is) ∙ state_type_is has.name type has.named })
 
 blob_only : (text : List ℕ) (part : StreamBlob) → IsStreamBlob text part → IsOnly (IsStreamBlob text) part
 blob_only text part is = stream_blob_answer text part.id part.blob (descriptor_only text part.id is.id) (optional_only text (codes "stream_state") part.blob is.blob)
 
 stream_only : (text : List ℕ) (part : StreamBlob) → IsStreamState text part → IsOnly (IsStreamState text) part
-stream_only text part is = stream_at text is.stream (Some part) (field_only text (codes "stream") is.stream is.field) (blob_only is.stream part is.is)
+stream_only text part is = stream_at text is.stream (Some part) (field_only text (codes "stream") is.stream is.field) (blob_only is.stream part is.blob)
 
 elements_same : (text : List ℕ) (spans others : List Span) → AreElements line_depth text spans → AreElements line_depth text others → others ≡ spans
 elements_same text spans others a b =
@@ -211,8 +211,8 @@ kind_only state_types.Global text (kind.Global shared streams) is = global_answe
 kind_only state_types.Legacy text kind.Legacy is = legacy_answer text
 kind_only _ text _ is = absurd is
 
-state_only : (text : List ℕ) (content : StateMsg) → IsState text content → IsOnly (IsState text) content
-state_only text content is = along_only (IsState text) (ap (λ (o : List ℕ). state_msg o content.kind content.source_count) (sym is.object)) (state_answer text is.nests.members is.type content.kind content.source_count is.nests.object (state_type_only text is.type is.typed) (kind_only is.type text content.kind is.kind) (stats_only text content.source_count is.count))
+pub state_only : (text : List ℕ) (content : State) → IsState text content → IsOnly (IsState text) content
+state_only text content is = along_only (IsState text) (ap (λ (o : List ℕ). state_msg o content.kind content.source_count) (sym is.object)) (state_answer text is.nests.members is.type content.kind content.source_count is.line is.nests.object (state_type_only text is.type is.typed) (kind_only is.type text content.kind is.kind) (stats_only text content.source_count is.count))
 
 -- ---- traces
 
@@ -228,7 +228,7 @@ told_only trace_types.Analytics text emitted_at (trace.Other object) is = along_
 told_only _ text emitted_at _ is = absurd is
 
 trace_only : (text : List ℕ) (content : TraceMsg) → IsTrace text content → IsOnly (IsTrace text) content
-trace_only text content is = trace_answer text is.type is.emitted_at (Some content) (word_only trace_text trace_of trace_is text (codes "type") is.type is.typed) (number_only text (codes "emitted_at") is.emitted_at is.number) (told_only is.type text is.emitted_at content is.is)
+trace_only text content is = trace_answer text is.type is.emitted_at (Some content) (word_only trace_text trace_of trace_is text (codes "type") is.type is.typed) (number_only text (codes "emitted_at") is.emitted_at is.number) (told_only is.type text is.emitted_at content is.told)
 
 -- ---- messages
 
@@ -244,4 +244,4 @@ payload_only types.Control text (message.Control content) is = control_payload t
 payload_only _ text _ is = absurd is
 
 pub message_only : (line : List ℕ) (content : Message) → IsMessage line content → IsOnly (IsMessage line) content
-message_only line content is = message_at_type line is.type (Some content) (word_only type_text type_of type_is line (codes "type") is.type is.typed) (payload_at line is.payload is.type (Some content) (field_only line (payload_text is.type) is.payload is.field) (payload_only is.type is.payload content is.is))
+message_only line content is = message_at_type line is.type (Some content) (word_only type_text type_of type_is line (codes "type") is.type is.typed) (payload_at line is.payload is.type (Some content) (field_only line (payload_text is.type) is.payload is.field) (payload_only is.type is.payload content is.told))

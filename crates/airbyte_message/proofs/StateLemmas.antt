@@ -10,8 +10,8 @@ use Rattle.json_fields.specs.Answer.{IsAnswer, IsOnly}
 use Rattle.json_fields.specs.Fields.{HasField, HasOptional, HasOptionalText, line_depth}
 use Rattle.json_fields.specs.Parts.{HasOptionalCount, IsCutList}
 use Rattle.airbyte_message.specs.Parts.{HasDescriptor}
-use Rattle.airbyte_message.specs.States.{AreOptionalStats, HasStats, IsStateType, HasStateType, IsStreamBlob, IsStreamState, AreStreamBlobs, HasStreamBlobs, IsGlobalState, IsKind, IsState, state_depth}
-use Rattle.airbyte_message.specs.declared.message.StateMsg.{StateMsg}
+use Rattle.airbyte_message.specs.States.{AreOptionalStats, HasStats, IsStateType, HasStateType, IsStreamBlob, IsStreamState, AreStreamBlobs, HasStreamBlobs, IsGlobalState, IsKind, IsState, state_depth, IsOneLine}
+use Rattle.airbyte_message.specs.State.{State}
 use Rattle.airbyte_message.specs.declared.message.StateKind.{StateKind}
 use Rattle.airbyte_message.specs.declared.message.StateKind.TheVariants as kind
 use Rattle.airbyte_message.specs.declared.message.StreamBlob.{StreamBlob}
@@ -43,7 +43,7 @@ has_stats text stats (Some count) optional only = record {
 
 -- the type of a state
 pub state_type_at : (text : List ℕ) (name : Option (List ℕ)) (found : Option StateType) → IsOnly (HasOptionalText text (codes "type")) name → IsAnswer (IsStateType name) found → IsAnswer (HasStateType text) found
-state_type_at text = at (HasOptionalText text (codes "type")) IsStateType (HasStateType text) (λ n t optional is. record { name = n; optional = optional; is = is }) (λ t has. (has.name, has.optional, has.is))
+state_type_at text = at (HasOptionalText text (codes "type")) IsStateType (HasStateType text) (λ n t optional is. record { name = n; optional = optional; named = is }) (λ t has. (has.name, has.optional, has.named))
 
 pub state_type_absent : (text : List ℕ) → IsAnswer (HasOptionalText text (codes "type")) None → IsAnswer (HasStateType text) None
 state_type_absent text none = λ t has. none has.name has.optional
@@ -62,7 +62,7 @@ pub stream_blob_uncut : (text : List ℕ) → ((members : List Member) → ¬ Ar
 stream_blob_uncut text none = λ part is. none is.id.field.members is.id.field.object
 
 pub stream_at : (text stream : List ℕ) (found : Option StreamBlob) → IsOnly (HasField text (codes "stream")) stream → IsAnswer (IsStreamBlob stream) found → IsAnswer (IsStreamState text) found
-stream_at text = at (HasField text (codes "stream")) IsStreamBlob (IsStreamState text) (λ s part field is. record { stream = s; field = field; is = is }) (λ part has. (has.stream, has.field, has.is))
+stream_at text = at (HasField text (codes "stream")) IsStreamBlob (IsStreamState text) (λ s part field is. record { stream = s; field = field; blob = is }) (λ part has. (has.stream, has.field, has.blob))
 
 pub stream_absent : (text : List ℕ) → IsAnswer (HasField text (codes "stream")) None → IsAnswer (IsStreamState text) None
 stream_absent text none = λ part has. none has.stream has.field
@@ -176,16 +176,16 @@ pub legacy_answer : (text : List ℕ) → IsOnly (IsKind types.Legacy text) kind
 legacy_answer text = record { is = tt; only = legacy_shown text }
 
 -- a state
-abbrev pub state_msg : List ℕ → StateKind → Option ℕ → StateMsg
+abbrev pub state_msg : List ℕ → StateKind → Option ℕ → State
 state_msg object what source_count = record { object = object; kind = what; source_count = source_count }
 
-pub state_answer : (text : List ℕ) (members : List Member) (type : StateType) (what : StateKind) (count : Option ℕ) → AreMembers state_depth text members → IsOnly (HasStateType text) type → IsOnly (IsKind type text) what → IsOnly (HasStats text) count → IsOnly (IsState text) (state_msg text what count)
-state_answer text members type what count nests typed kind_is count_is = record {
-  is = record { object = refl; nests = record { members = members; object = nests }; type = type; typed = typed.is; kind = kind_is.is; count = count_is.is };
+pub state_answer : (text : List ℕ) (members : List Member) (type : StateType) (what : StateKind) (count : Option ℕ) → IsOneLine text → AreMembers state_depth text members → IsOnly (HasStateType text) type → IsOnly (IsKind type text) what → IsOnly (HasStats text) count → IsOnly (IsState text) (state_msg text what count)
+state_answer text members type what count line nests typed kind_is count_is = record {
+  is = record { object = refl; line = line; nests = record { members = members; object = nests }; type = type; typed = typed.is; kind = kind_is.is; count = count_is.is };
   only = λ other is. same other is.object (kind_is.only other.kind (subst (λ (t : StateType). IsKind t text other.kind) (typed.only is.type is.typed) is.kind)) (count_is.only other.source_count is.count);
 }
   where
-    same : (other : StateMsg) → other.object ≡ text → other.kind ≡ what → other.source_count ≡ count → other ≡ state_msg text what count
+    same : (other : State) → other.object ≡ text → other.kind ≡ what → other.source_count ≡ count → other ≡ state_msg text what count
     same other e f g = ap (λ (o : List ℕ). state_msg o other.kind other.source_count) e ∙ (ap (λ (k : StateKind). state_msg text k other.source_count) f ∙ ap (λ (n : Option ℕ). state_msg text what n) g)
 
 pub state_uncut : (text : List ℕ) → ((members : List Member) → ¬ AreMembers state_depth text members) → IsAnswer (IsState text) None

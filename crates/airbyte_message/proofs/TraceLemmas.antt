@@ -109,13 +109,13 @@ IsTypeOf text type = HasText text (codes "type") (trace_text type)
 
 moved : (text : List ℕ) (type : TraceType) (at : Option (List ℕ)) (content : TraceMsg) → IsOnly (IsTypeOf text) type → IsOnly (HasOptionalNumber text (codes "emitted_at")) at → IsTrace text content → IsTold type text at content
 moved text type at content typed number is =
-    let told = subst (λ (t : TraceType). IsTold t text is.emitted_at content) (typed.only is.type is.typed) is.is in
+    let told = subst (λ (t : TraceType). IsTold t text is.emitted_at content) (typed.only is.type is.typed) is.told in
     subst (λ (a : Option (List ℕ)). IsTold type text a content) (number.only is.emitted_at is.number) told
 
 pub trace_answer : (text : List ℕ) (type : TraceType) (at : Option (List ℕ)) (found : Option TraceMsg) → IsOnly (IsTypeOf text) type → IsOnly (HasOptionalNumber text (codes "emitted_at")) at → IsAnswer (IsTold type text at) found → IsAnswer (IsTrace text) found
 trace_answer text type at None typed number none = λ content is. none content (moved text type at content typed number is)
 trace_answer text type at (Some told) typed number only = record {
-  is = record { type = type; typed = typed.is; emitted_at = at; number = number.is; is = only.is };
+  is = record { type = type; typed = typed.is; emitted_at = at; number = number.is; told = only.is };
   only = λ content is. only.only content (moved text type at content typed number is);
 }
 

@@ -19,4 +19,4 @@ pub record IsEcho (object : List ℕ) (count : ℕ) (text : List ℕ) : Type 0 w
   pub are : AreMembers 127 object members
   pub kept : List Member
   pub without : Without object (codes "destinationStats") members kept
-  pub is : text ≡ echo_text object kept count
+  pub spelled : text ≡ echo_text object kept count

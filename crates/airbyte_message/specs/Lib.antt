@@ -1,10 +1,13 @@
 pub mod Words
 pub mod Depths
+pub mod State
 pub mod Parts
 pub mod States
+pub mod Lanes
 pub mod Traces
 pub mod Messages
 pub mod Echo
 pub mod Same
+pub mod EchoReads
 pub mod Views
 pub mod Laws

@@ -10,7 +10,7 @@ use Rattle.airbyte_message.specs.Traces.{IsTrace}
 use Rattle.airbyte_message.specs.declared.message.Message.{Message}
 use Rattle.airbyte_message.specs.declared.message.Message.TheVariants as message
 use Rattle.airbyte_message.specs.declared.message.RecordMsg.{RecordMsg}
-use Rattle.airbyte_message.specs.declared.message.StateMsg.{StateMsg}
+use Rattle.airbyte_message.specs.State.{State}
 use Rattle.airbyte_message.specs.declared.message.LogMsg.{LogMsg}
 use Rattle.airbyte_message.specs.declared.message.SpecMsg.{SpecMsg}
 use Rattle.airbyte_message.specs.declared.message.ConnectionMsg.{ConnectionMsg}
@@ -68,7 +68,7 @@ pub record IsMessage (line : List ℕ) (content : Message) : Type 0 where
   pub typed : HasText line (codes "type") (type_text type)
   pub payload : List ℕ
   pub field : HasField line (payload_text type) payload
-  pub is : IsPayload type payload content
+  pub told : IsPayload type payload content
 
-abbrev pub IsStateLine : List ℕ → StateMsg → Type 0
+abbrev pub IsStateLine : List ℕ → State → Type 0
 IsStateLine line state = IsMessage line (message.State state)

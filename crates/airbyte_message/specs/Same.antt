@@ -3,7 +3,7 @@
 use Rattle.std.specs.Prelude.{◌≡◌, ◌≢◌, ℕ, List, Option, None, Some, map, codes}
 use Rattle.basics.specs.declared.stream.StreamId.{StreamId}
 use Rattle.json_squeeze.specs.Squeeze.{squeezed}
-use Rattle.airbyte_message.specs.declared.message.StateMsg.{StateMsg}
+use Rattle.airbyte_message.specs.State.{State}
 use Rattle.airbyte_message.specs.declared.message.StateKind.{StateKind}
 use Rattle.airbyte_message.specs.declared.message.StateKind.TheVariants as kind
 use Rattle.airbyte_message.specs.declared.message.StreamBlob.{StreamBlob}
@@ -23,11 +23,11 @@ IsSameKind (kind.Stream id blob) (kind.Stream other_id other_blob) = (id ≡ oth
 IsSameKind (kind.Global shared streams) (kind.Global other_shared others) = (blob_form shared ≡ blob_form other_shared) × (map part_form streams ≡ map part_form others)
 IsSameKind _ _ = ⊥
 
-abbrev pub Same : StateMsg → StateMsg → Type 0
+abbrev pub Same : State → State → Type 0
 Same a b = IsSameKind a.kind b.kind
 
 -- A state that is not Legacy is the same as itself, and being the same goes both ways and from one to the next.
 pub record SameLaws : Type 0 where
-  pub itself : (a : StateMsg) → a.kind ≢ kind.Legacy → Same a a
-  pub turned : (a b : StateMsg) → Same a b → Same b a
-  pub onward : (a b c : StateMsg) → Same a b → Same b c → Same a c
+  pub itself : (a : State) → a.kind ≢ kind.Legacy → Same a a
+  pub turned : (a b : State) → Same a b → Same b a
+  pub onward : (a b c : State) → Same a b → Same b c → Same a c

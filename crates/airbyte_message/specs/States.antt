@@ -5,9 +5,9 @@ use Rattle.json_span.specs.Elements.{AreElements}
 use Rattle.json_span.specs.declared.Span.{Span}
 use Rattle.json_fields.specs.Fields.{HasField, HasOptional, HasOptionalText, line_depth}
 use Rattle.json_fields.specs.Parts.{HasOptionalCount, NestsWithin}
-pub use Rattle.airbyte_message.specs.Depths.{state_depth}
+pub use Rattle.airbyte_message.specs.Depths.{state_depth, IsOneLine}
 use Rattle.airbyte_message.specs.Parts.{HasDescriptor}
-use Rattle.airbyte_message.specs.declared.message.StateMsg.{StateMsg}
+use Rattle.airbyte_message.specs.State.{State}
 use Rattle.airbyte_message.specs.declared.message.StateKind.{StateKind}
 use Rattle.airbyte_message.specs.declared.message.StateKind.TheVariants as kind
 use Rattle.airbyte_message.specs.declared.message.StreamBlob.{StreamBlob}
@@ -33,7 +33,7 @@ IsStateType name types.Legacy = (name ≡ None) ⊎ (name ≡ Some (codes "LEGAC
 pub record HasStateType (text : List ℕ) (type : StateType) : Type 0 where
   pub name : Option (List ℕ)
   pub optional : HasOptionalText text (codes "type") name
-  pub is : IsStateType name type
+  pub named : IsStateType name type
 
 -- a stream and its blob, which is the source's own
 pub record IsStreamBlob (text : List ℕ) (part : StreamBlob) : Type 0 where
@@ -44,7 +44,7 @@ pub record IsStreamBlob (text : List ℕ) (part : StreamBlob) : Type 0 where
 pub record IsStreamState (text : List ℕ) (part : StreamBlob) : Type 0 where
   pub stream : List ℕ
   pub field : HasField text (codes "stream") stream
-  pub is : IsStreamBlob stream part
+  pub blob : IsStreamBlob stream part
 
 -- the elements of an array at these places are these streams and their blobs, in this order
 abbrev pub AreStreamBlobs : List ℕ → List Span → List StreamBlob → Type 0
@@ -74,8 +74,10 @@ IsKind types.Global text (kind.Global shared streams) = IsGlobalState text share
 IsKind types.Legacy text kind.Legacy = Unit {0}
 IsKind _ text _ = ⊥
 
-pub record IsState (text : List ℕ) (state : StateMsg) : Type 0 where
+-- the text, which stands on one line, is this state
+pub record IsState (text : List ℕ) (state : State) : Type 0 where
   pub object : state.object ≡ text
+  pub line : IsOneLine text
   pub nests : NestsWithin state_depth text
   pub type : StateType
   pub typed : HasStateType text type

@@ -20,11 +20,11 @@ pub record HasError (text meaning : List ℕ) (type : Option FailureType) : Type
   pub failure : HasOptionalText error (codes "failure_type") (option_map failure_text type)
 
 -- the `stream_status` of a trace of type STREAM_STATUS
-pub record HasStatus (text : List ℕ) (id : StreamId) (is : StreamStatus) : Type 0 where
+pub record HasStatus (text : List ℕ) (id : StreamId) (progress : StreamStatus) : Type 0 where
   pub held : List ℕ
   pub field : HasField text (codes "stream_status") held
   pub stream : HasDescriptor held id
-  pub status : HasText held (codes "status") (status_text is)
+  pub status : HasText held (codes "status") (status_text progress)
 
 -- what a trace of this type tells, where this is its `emitted_at`
 abbrev pub IsTold : TraceType → List ℕ → Option (List ℕ) → TraceMsg → Type 0
@@ -39,4 +39,4 @@ pub record IsTrace (text : List ℕ) (content : TraceMsg) : Type 0 where
   pub typed : HasText text (codes "type") (trace_text type)
   pub emitted_at : Option (List ℕ)
   pub number : HasOptionalNumber text (codes "emitted_at") emitted_at
-  pub is : IsTold type text emitted_at content
+  pub told : IsTold type text emitted_at content

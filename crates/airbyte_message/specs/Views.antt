@@ -29,9 +29,9 @@ message_at (view.Owned content) = content
 pub record HasPayload (line : List ℕ) (type : MessageType) (content : Message) : Type 0 where
   pub payload : List ℕ
   pub field : HasField line (payload_text type) payload
-  pub is : IsPayload type payload content
+  pub told : IsPayload type payload content
 
 pub record HasRecord (line : List ℕ) (content : RecordMsg) : Type 0 where
   pub payload : List ℕ
   pub field : HasField line (codes "record") payload
-  pub is : IsRecord payload content
+  pub told : IsRecord payload content

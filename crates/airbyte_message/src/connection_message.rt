@@ -11,6 +11,19 @@ use json_fields::{cut, optional_text, text_field};
 use json_span::{MAX_DEPTH, MemberList};
 use std::alloc::Global;
 
+impl ConnectionMsg {
+    /// The member `status`.
+    pub fn status(&self) -> &'static str
+        ensures { result.now ≡ connection_text self.now.succeeded }
+    {
+        if self.succeeded {
+            "SUCCEEDED"
+        } else {
+            "FAILED"
+        }
+    }
+}
+
 // Whether a status of this name is a success.
 fn success_named(text: &str) -> Option<bool>
     ensures { IsAnswer (λ success. text.now ≡ connection_text success) result }

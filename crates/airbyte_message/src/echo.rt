@@ -2,6 +2,7 @@
 ghost use Rattle.std.specs.Prelude.{◌≡◌, ◌≢◌, ◌++◌, All, flat_map, IfOk, OnOk};
 ghost use Rattle.json_span.specs.Members.{IsMemberOf};
 ghost use Rattle.airbyte_message.specs.Echo.{IsEcho, member_text};
+ghost use Rattle.airbyte_message.specs.EchoReads.{ReadsAsEcho};
 ghost use Rattle.airbyte_message.specs.declared.message.StateKind.TheVariants.{Legacy};
 
 use crate::StateMsg;
@@ -38,12 +39,14 @@ fn put_raw_members(echo: &mut Bytes, object: &[u8], members: &[Member]) -> Resul
 }
 
 /// The line by which a destination sends a state back after committing `count` records: the state's members as they
-/// stand, without `destinationStats`, and then `destinationStats` with the count. A Legacy state has no echo.
+/// stand, without `destinationStats`, and then `destinationStats` with the count. It reads back as the same state. A
+/// Legacy state has no echo.
 pub fn echo_of(alloc: Global, state: &StateMsg, count: u64) -> Result<Bytes, NoMemory>
     requires { state.now.kind ≢ Legacy }
-    ensures { IfOk result (IsEcho state.now.object count) }
+    ensures echo { IfOk result (IsEcho state.now.object count) }
+    ensures reads_back { IfOk result (ReadsAsEcho state.now count) }
 {
-    let object = state.object.as_slice();
+    let object = state.object().as_slice();
     let Some(members) = cut(alloc, object, MAX_DEPTH)? else {
         unreachable!()
     };

@@ -24,7 +24,7 @@ mod view;
 
 pub use echo::echo_of;
 pub use failure_type::FailureType;
-pub use laws::{one_echo, one_message};
+pub use laws::{echoes_read_back, one_echo, one_message};
 pub use level::Level;
 pub use message::{
     CatalogMsg, ConnectionMsg, ControlMsg, LogMsg, Message, Raw, RecordMsg, SpecMsg, StateKind,
@@ -35,4 +35,5 @@ pub use same::{same_laws, same_state};
 pub use state_message::state_of;
 pub use state_object::StateObject;
 pub use stream_status::StreamStatus;
+pub use trace_message::TraceType;
 pub use view::{MessageView, RecordView, StreamView, own_id, own_message, own_record};

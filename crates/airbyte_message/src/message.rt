@@ -1,6 +1,11 @@
 // The messages of the protocol.
+ghost use Rattle.std.specs.Prelude.{◌≡◌, IfOk};
+ghost use Rattle.airbyte_message.specs.States.{IsState};
+
 use crate::{FailureType, Level, StateObject, StreamStatus};
-use basics::{Bytes, Name, Sequence, StreamId};
+use basics::{Bytes, Copies, Name, NoMemory, Sequence, StreamId};
+use std::alloc::Global;
+use std::marker::Model;
 
 /// The text of a JSON value, as it stood in its line.
 pub type Raw = Bytes;
@@ -16,14 +21,86 @@ pub struct RecordMsg {
     pub meta: Option<Raw>,
 }
 
-/// A state of a source.
+/// A state of a source: the object that is the member `state`, and what it says. There is no other: `state_of` makes
+/// one of a text. Contracts see its `object`, its `kind` and its `source_count`.
 #[derive(Debug, Drop)]
 pub struct StateMsg {
+    object: StateObject,
+    kind: StateKind,
+    // The member `recordCount` of `sourceStats`; below 2^63.
+    source_count: Option<u64>,
+}
+
+impl Model for StateMsg {
+    ghost use Rattle.airbyte_message.specs.State.{State};
+    ghost use Rattle.airbyte_message.specs.States.{IsState};
+
+    ghost Value = { State };
+
+    ghost view = { λ state. record { object = state.object; kind = state.kind; source_count = state.source_count } };
+
+    ghost invariant = { λ state. IsState state.object (record { object = state.object; kind = state.kind; source_count = state.source_count }) };
+}
+
+impl StateMsg {
+    // The state that this object is.
+    pub(crate) fn new(object: StateObject, kind: StateKind, source_count: Option<u64>) -> Self
+        requires { IsState object (record { object = object; kind = kind; source_count = source_count }) }
+        ensures { result ≡ record { object = object; kind = kind; source_count = source_count } }
+    {
+        StateMsg {
+            object,
+            kind,
+            source_count,
+        }
+    }
+
     /// The member `state`.
-    pub object: StateObject,
-    pub kind: StateKind,
+    pub fn object(&self) -> &StateObject
+        ensures object { result.now ≡ self.now.object }
+        ensures state { IsState self.now.object self.now }
+    {
+        &self.object
+    }
+
+    /// What it is of.
+    pub fn kind(&self) -> &StateKind
+        ensures { result.now ≡ self.now.kind }
+    {
+        &self.kind
+    }
+
     /// The member `recordCount` of `sourceStats`; below 2^63.
-    pub source_count: Option<u64>,
+    pub fn source_count(&self) -> Option<u64>
+        ensures { result ≡ self.now.source_count }
+    {
+        self.source_count
+    }
+
+    /// The member `state`, in its memory.
+    pub fn into_object(self) -> StateObject
+        ensures { result ≡ self.object }
+    {
+        self.object
+    }
+
+    /// The object and what it is of, in their memory.
+    pub fn into_parts(self) -> (StateObject, StateKind)
+        ensures parts { result ≡ (self.object, self.kind) }
+        ensures state { IsState self.object self }
+    {
+        (self.object, self.kind)
+    }
+}
+
+impl Copies for StateMsg {
+    fn copy(&self, alloc: Global) -> Result<Self, NoMemory> {
+        Ok(StateMsg {
+            object: self.object.copy(alloc)?,
+            kind: self.kind.copy(alloc)?,
+            source_count: self.source_count,
+        })
+    }
 }
 
 /// What a state is of. A blob is a member `stream_state`, which is the source's own and opaque.
@@ -43,11 +120,36 @@ pub enum StateKind {
     Legacy,
 }
 
+impl Copies for StateKind {
+    fn copy(&self, alloc: Global) -> Result<Self, NoMemory> {
+        match self {
+            StateKind::Stream { id, blob } => Ok(StateKind::Stream {
+                id: id.copy(alloc)?,
+                blob: blob.copy(alloc)?,
+            }),
+            StateKind::Global { shared, streams } => Ok(StateKind::Global {
+                shared: shared.copy(alloc)?,
+                streams: streams.copy(alloc)?,
+            }),
+            StateKind::Legacy => Ok(StateKind::Legacy),
+        }
+    }
+}
+
 /// A stream and its blob.
 #[derive(Debug, Drop)]
 pub struct StreamBlob {
     pub id: StreamId,
     pub blob: Option<Raw>,
+}
+
+impl Copies for StreamBlob {
+    fn copy(&self, alloc: Global) -> Result<Self, NoMemory> {
+        Ok(StreamBlob {
+            id: self.id.copy(alloc)?,
+            blob: self.blob.copy(alloc)?,
+        })
+    }
 }
 
 /// Streams and their blobs, in the order of the text.

@@ -122,9 +122,9 @@ fn is_global_state(
 pub fn same_state(alloc: Global, a: &StateMsg, b: &StateMsg) -> Result<bool, NoMemory>
     ensures { IfOk result (λ is. IsTrue is ↔ Same a.now b.now) }
 {
-    match &a.kind {
-        StateKind::Stream { id, blob } => is_stream_state(alloc, &b.kind, id, blob),
-        StateKind::Global { shared, streams } => is_global_state(alloc, &b.kind, shared, streams),
+    match a.kind() {
+        StateKind::Stream { id, blob } => is_stream_state(alloc, b.kind(), id, blob),
+        StateKind::Global { shared, streams } => is_global_state(alloc, b.kind(), shared, streams),
         StateKind::Legacy => Ok(false),
     }
 }

@@ -1,9 +1,9 @@
 // The payload of a STATE line.
-ghost use Rattle.std.specs.Prelude.{IfOk, Some, codes};
+ghost use Rattle.std.specs.Prelude.{◌↔◌, IfOk, IsTrue, Some, codes};
 ghost use Rattle.json_fields.specs.Answer.{IsAnswer};
 ghost use Rattle.json_fields.specs.Fields.{IsCut};
 ghost use Rattle.json_fields.specs.Parts.{HasOptionalCount};
-ghost use Rattle.airbyte_message.specs.States.{HasStats, HasStateType, IsKind, IsState, IsStateType};
+ghost use Rattle.airbyte_message.specs.States.{HasStats, HasStateType, IsKind, IsOneLine, IsState, IsStateType};
 
 use crate::stream_blob::{global_of, stream_of};
 use crate::{StateKind, StateMsg, StateObject, StreamBlob};
@@ -105,10 +105,21 @@ fn kind_of(
     }
 }
 
-/// The state that a payload is.
+// Whether a text has no line feed.
+fn is_one_line(text: &[u8]) -> bool
+    ensures { IsTrue result ↔ IsOneLine text.now }
+{
+    !text.contains(&b'\n')
+}
+
+/// The state that a payload is. A text with line feeds is none, since an echo or a saved line that held it would break:
+/// squeeze such a text first.
 pub fn state_of(alloc: Global, text: &[u8]) -> Result<Option<StateMsg>, NoMemory>
     ensures { IfOk result (IsAnswer (IsState text.now)) }
 {
+    if !is_one_line(text) {
+        return Ok(None);
+    }
     let Some(members) = cut(alloc, text, STATE_DEPTH)? else {
         return Ok(None);
     };
@@ -121,9 +132,6 @@ pub fn state_of(alloc: Global, text: &[u8]) -> Result<Option<StateMsg>, NoMemory
     let Some(source_count) = source_count_of(alloc, text, &members)? else {
         return Ok(None);
     };
-    Ok(Some(StateMsg {
-        object: StateObject::new(Bytes::copy_of(alloc, text)?),
-        kind,
-        source_count,
-    }))
+    let object = StateObject::new(Bytes::copy_of(alloc, text)?);
+    Ok(Some(StateMsg::new(object, kind, source_count)))
 }

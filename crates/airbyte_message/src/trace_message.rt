@@ -22,23 +22,37 @@ pub enum TraceType {
     Analytics,
 }
 
-// The type of this name.
-fn trace_named(text: &str) -> Option<TraceType>
-    ensures { IsAnswer (λ type. text.now ≡ trace_text type) result }
-{
-    if text == "ERROR" {
-        return Some(TraceType::Error);
+impl TraceType {
+    /// The type's name in a message.
+    pub fn text(&self) -> &'static str
+        ensures { result.now ≡ trace_text self.now }
+    {
+        match self {
+            TraceType::Error => "ERROR",
+            TraceType::Estimate => "ESTIMATE",
+            TraceType::StreamStatus => "STREAM_STATUS",
+            TraceType::Analytics => "ANALYTICS",
+        }
     }
-    if text == "ESTIMATE" {
-        return Some(TraceType::Estimate);
+
+    /// The type of this name.
+    pub fn of(text: &str) -> Option<Self>
+        ensures { IsAnswer (λ type. text.now ≡ trace_text type) result }
+    {
+        if text == "ERROR" {
+            return Some(TraceType::Error);
+        }
+        if text == "ESTIMATE" {
+            return Some(TraceType::Estimate);
+        }
+        if text == "STREAM_STATUS" {
+            return Some(TraceType::StreamStatus);
+        }
+        if text == "ANALYTICS" {
+            return Some(TraceType::Analytics);
+        }
+        None
     }
-    if text == "STREAM_STATUS" {
-        return Some(TraceType::StreamStatus);
-    }
-    if text == "ANALYTICS" {
-        return Some(TraceType::Analytics);
-    }
-    None
 }
 
 // The member `type`.
@@ -47,7 +61,7 @@ fn type_of(alloc: Global, text: &[u8], members: &MemberList) -> Result<Option<Tr
     ensures { IfOk result (IsAnswer (λ type. HasText text.now (codes "type") (trace_text type))) }
 {
     match text_field(alloc, text, members, "type")? {
-        Some(name) => Ok(trace_named(name.as_str())),
+        Some(name) => Ok(TraceType::of(name.as_str())),
         None => Ok(None),
     }
 }

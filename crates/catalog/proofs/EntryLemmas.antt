@@ -4,20 +4,20 @@ use Rattle.std.specs.List.{AllZip}
 use Rattle.std.specs.Str.{bytes_eq}
 use Rattle.std.proofs.lemmas.Slice.Eq.{bytes_eq-Decides}
 use Rattle.json_scalar.specs.Text.{IsString}
-use Rattle.json_span.specs.Members.{AreMembers, text_at}
+use Rattle.json_span.specs.Members.{AreMembers, IsSomeObject, text_at}
 use Rattle.json_span.specs.declared.Member.{Member}
 use Rattle.json_span.specs.declared.Span.{Span}
 use Rattle.json_span.specs.Elements.{AreElements}
 use Rattle.json_fields.specs.Answer.{IsAnswer, IsOnly}
 use Rattle.json_fields.specs.Fields.{HasField, HasOptional, HasText, HasOptionalText, line_depth}
 use Rattle.json_fields.specs.Parts.{HasOptionalCount, IsCutList}
-use Rattle.json_fields.proofs.AnswerLemmas.{true_false}
+use Rattle.json_fields.proofs.AnswerLemmas.{at, true_false}
 use Rattle.basics.specs.declared.stream.StreamId.{StreamId}
 use Rattle.basics.specs.declared.limits.TheConstants.{LONGEST_NAME}
 use Rattle.catalog.specs.declared.entry.Entry.{Entry}
 use Rattle.catalog.specs.declared.entry.Ids.{Ids}
 use Rattle.catalog.specs.declared.entry.StreamPart.{StreamPart}
-use Rattle.catalog.specs.Entry.{PathNames, IsPath, IsKeyPath, IsKey, HasOptionalList, IsOptionalShortName, HasStreamId, HasSchema, IsStream, HasIds, IsEntry}
+use Rattle.catalog.specs.Entry.{PathNames, IsPath, IsKeyPath, IsKey, HasOptionalList, IsOptionalShortName, HasStreamId, HasSchema, IsStream, HasStream, HasIds, IsEntry}
 use Rattle.catalog.proofs.ListLemmas.{list_answer, no_list}
 
 -- the names of a path, and the paths of a key
@@ -112,8 +112,18 @@ stream_answer stream id cursor key resumable schema i c k r s = record {
       ∙ ap (λ (x : List ℕ). stream_part id cursor key resumable x) (s.only other.schema is.schema))));
 }
 
-pub stream_uncut : (stream : List ℕ) → ((members : List Member) → ¬ AreMembers line_depth stream members) → IsAnswer (IsStream stream) None
-stream_uncut stream none = λ part is. none is.id.name.field.members is.id.name.field.object
+-- a stream that is no object has no members to say anything
+pub stream_uncut : (stream : List ℕ) → ¬ IsSomeObject stream → IsAnswer (IsStream stream) None
+stream_uncut stream none = λ part is.
+    let object = is.id.name.field.object in
+    none (record { deep = object.deep; members = is.id.name.field.members; object = object.object })
+
+-- the member `stream`, by what it holds
+pub stream_held : (text held : List ℕ) (found : Option StreamPart) → IsOnly (HasField text (codes "stream")) held → IsAnswer (IsStream held) found → IsAnswer (HasStream text) found
+stream_held text held found = at (HasField text (codes "stream")) IsStream (HasStream text) (λ h part field is. record { held = h; field = field; is = is }) (λ part has. (has.held, has.field, has.is)) held found
+
+pub stream_absent : (text : List ℕ) → IsAnswer (HasField text (codes "stream")) None → IsAnswer (HasStream text) None
+stream_absent text none = λ part has. none has.held has.field
 
 pub stream_unnamed : (stream : List ℕ) → IsAnswer (HasStreamId stream) None → IsAnswer (IsStream stream) None
 stream_unnamed stream none = λ part is. none part.id is.id
@@ -150,11 +160,11 @@ no_sync_id text none = λ ids is. none ids.sync_id is.sync_id
 abbrev pub entry_with : StreamPart → List ℕ → List ℕ → PathNames → List PathNames → Ids → Entry
 entry_with stream sync dest cursor key ids = record { stream = stream; sync = sync; dest = dest; cursor = cursor; key = key; ids = ids }
 
-pub entry_answer : (text held : List ℕ) (stream : StreamPart) (sync dest : List ℕ) (cursor : PathNames) (key : List PathNames) (ids : Ids) → IsOnly (HasField text (codes "stream")) held → IsOnly (IsStream held) stream → IsOnly (HasText text (codes "sync_mode")) sync → IsOnly (HasText text (codes "destination_sync_mode")) dest → IsOnly (HasOptionalList IsPath text (codes "cursor_field")) cursor → IsOnly (HasOptionalList IsKey text (codes "primary_key")) key → IsOnly (HasIds text) ids → IsOnly (IsEntry text) (entry_with stream sync dest cursor key ids)
-entry_answer text held stream sync dest cursor key ids h st sy de c k i = record {
-  is = record { held = held; field = h.is; stream = st.is; sync = sy.is; dest = de.is; cursor = c.is; key = k.is; ids = i.is };
+pub entry_answer : (text : List ℕ) (stream : StreamPart) (sync dest : List ℕ) (cursor : PathNames) (key : List PathNames) (ids : Ids) → IsOnly (HasStream text) stream → IsOnly (HasText text (codes "sync_mode")) sync → IsOnly (HasText text (codes "destination_sync_mode")) dest → IsOnly (HasOptionalList IsPath text (codes "cursor_field")) cursor → IsOnly (HasOptionalList IsKey text (codes "primary_key")) key → IsOnly (HasIds text) ids → IsOnly (IsEntry text) (entry_with stream sync dest cursor key ids)
+entry_answer text stream sync dest cursor key ids st sy de c k i = record {
+  is = record { stream = st.is; sync = sy.is; dest = de.is; cursor = c.is; key = k.is; ids = i.is };
   only = λ other is.
-      ap (λ (x : StreamPart). entry_with x other.sync other.dest other.cursor other.key other.ids) (st.only other.stream (subst (λ (t : List ℕ). IsStream t other.stream) (h.only is.held is.field) is.stream))
+      ap (λ (x : StreamPart). entry_with x other.sync other.dest other.cursor other.key other.ids) (st.only other.stream is.stream)
       ∙ (ap (λ (x : List ℕ). entry_with stream x other.dest other.cursor other.key other.ids) (sy.only other.sync is.sync)
       ∙ (ap (λ (x : List ℕ). entry_with stream sync x other.cursor other.key other.ids) (de.only other.dest is.dest)
       ∙ (ap (λ (x : PathNames). entry_with stream sync dest x other.key other.ids) (c.only other.cursor is.cursor)
@@ -163,13 +173,10 @@ entry_answer text held stream sync dest cursor key ids h st sy de c k i = record
 }
 
 pub entry_uncut : (text : List ℕ) → ((members : List Member) → ¬ AreMembers line_depth text members) → IsAnswer (IsEntry text) None
-entry_uncut text none = λ entry is. none is.field.members is.field.object
+entry_uncut text none = λ entry is. none is.stream.field.members is.stream.field.object
 
-pub entry_no_field : (text : List ℕ) → IsAnswer (HasField text (codes "stream")) None → IsAnswer (IsEntry text) None
-entry_no_field text none = λ entry is. none is.held is.field
-
-pub entry_no_stream : (text held : List ℕ) → IsOnly (HasField text (codes "stream")) held → IsAnswer (IsStream held) None → IsAnswer (IsEntry text) None
-entry_no_stream text held h none = λ entry is. none entry.stream (subst (λ (t : List ℕ). IsStream t entry.stream) (h.only is.held is.field) is.stream)
+pub entry_no_stream : (text : List ℕ) → IsAnswer (HasStream text) None → IsAnswer (IsEntry text) None
+entry_no_stream text none = λ entry is. none entry.stream is.stream
 
 pub entry_no_sync : (text : List ℕ) → IsAnswer (HasText text (codes "sync_mode")) None → IsAnswer (IsEntry text) None
 entry_no_sync text none = λ entry is. none entry.sync is.sync

@@ -1,4 +1,6 @@
+pub mod CatalogBack
 pub mod ConfiguredLemmas
+pub mod EntryBack
 pub mod EntryLemmas
 pub mod ListLemmas
 pub mod NestLemmas

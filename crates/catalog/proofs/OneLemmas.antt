@@ -28,7 +28,7 @@ use Rattle.catalog.specs.declared.entry.StreamPart.{StreamPart}
 use Rattle.catalog.specs.Checks.{judged}
 use Rattle.catalog.specs.Entry.{PathNames, IsPath, IsKeyPath, IsKey, HasOptionalList, IsOptionalList, HasStreamId, HasSchema, IsStream, HasIds, IsEntry}
 use Rattle.catalog.specs.Reading.{Reading, ReadsAs, ReadsEntries, ReadsEntry, ReadsList, HasStreams, ids_of}
-use Rattle.catalog.proofs.EntryLemmas.{stream_answer, ids_answer, entry_answer, has_id, has_schema}
+use Rattle.catalog.proofs.EntryLemmas.{stream_answer, stream_held, ids_answer, entry_answer, has_id, has_schema}
 
 pub one_members : (limit : ℕ) (text : List ℕ) (members others : List Member) → AreMembers limit text members → AreMembers limit text others → others ≡ members
 one_members limit text members others a b = sym (sound text b.deep others b.object).places ∙ (sound text a.deep members a.object).places
@@ -123,9 +123,8 @@ only_ids text ids h = ids_answer text ids.generation ids.minimum ids.sync_id (on
 
 pub only_entry : (text : List ℕ) (entry : Entry) → IsEntry text entry → IsOnly (IsEntry text) entry
 only_entry text entry h =
-    entry_answer text h.held entry.stream entry.sync entry.dest entry.cursor entry.key entry.ids
-    (only (HasField text (codes "stream")) (λ x y p q. one_field text (codes "stream") x y p q) h.held h.field)
-    (only_stream h.held entry.stream h.stream)
+    entry_answer text entry.stream entry.sync entry.dest entry.cursor entry.key entry.ids
+    (stream_held text h.stream.held (Some entry.stream) (only (HasField text (codes "stream")) (λ x y p q. one_field text (codes "stream") x y p q) h.stream.held h.stream.field) (only_stream h.stream.held entry.stream h.stream.is))
     (only (HasText text (codes "sync_mode")) (λ x y p q. one_text text (codes "sync_mode") x y p q) entry.sync h.sync)
     (only (HasText text (codes "destination_sync_mode")) (λ x y p q. one_text text (codes "destination_sync_mode") x y p q) entry.dest h.dest)
     (only_path text (codes "cursor_field") entry.cursor h.cursor)

@@ -89,7 +89,7 @@ judged_in_parts n text entry stream (Some sync) (Some dest) s d e =
     let none = three_fail (is_too_large entry.ids) (is_minimum_above entry.ids) (lacks_key dest key) (fault.TooLarge n) (fault.MinimumAboveGeneration n) (fault.NoKey n) r.0 in
     record { sync = sync; dest = dest; sync_is = s; dest_is = d; is = r.1; small = none.0; minimum = none.1; keyed = none.2 }
 
-judged_parts : (n : ℕ) (text : List ℕ) (entry : Entry) (stream : ConfStream) → judged_alone n text entry ≡ Ok stream → IsJudged text entry stream
+pub judged_parts : (n : ℕ) (text : List ℕ) (entry : Entry) (stream : ConfStream) → judged_alone n text entry ≡ Ok stream → IsJudged text entry stream
 judged_parts n text entry stream e = judged_in_parts n text entry stream (sync_mode_of entry.sync) (dest_mode_of entry.dest) refl refl e
 
 pub judged_again : (n : ℕ) (text : List ℕ) (entry : Entry) (stream : ConfStream) → IsJudged text entry stream → judged_alone n text entry ≡ Ok stream
@@ -113,14 +113,14 @@ within_limit (Some id) e = ltb-false GREATEST_GENERATION id e
 pub stream_configured : (n : ℕ) (text : List ℕ) (entry : Entry) (stream : ConfStream) → IsEntry text entry → judged_alone n text entry ≡ Ok stream → IsValue text → NestsAtMost entry_depth text → IsConfigured stream
 stream_configured n text entry stream is e value nests =
     let j = judged_parts n text entry stream e in
-    let o = is.field.object in
+    let o = is.stream.field.object in
     let a = or_false (is_above entry.ids.generation) (is_above entry.ids.minimum || (is_above entry.ids.sync_id || false)) j.small in
     let b = or_false (is_above entry.ids.minimum) (is_above entry.ids.sync_id || false) a.1 in
     let d = or_false (is_above entry.ids.sync_id) false b.1 in
     subst IsConfigured (sym j.is) (record {
       reads = inr (entry, is, sym (ap (λ (r : Result ConfStream CatalogFault). once [] 0 r) (judged_again 0 text entry stream j) ∙ ap (λ (s : ConfStream). Ok s) j.is));
       value = value;
-      nests = record { members = is.field.members; object = record { deep = o.deep; within = nests o.deep is.field.members o.object; object = o.object } };
+      nests = record { members = is.stream.field.members; object = record { deep = o.deep; within = nests o.deep is.stream.field.members o.object; object = o.object } };
       generation = within_limit entry.ids.generation a.0;
       minimum = ltb-false (unwrap_or entry.ids.generation 0) (unwrap_or entry.ids.minimum 0) j.minimum;
       sync_id = within_limit entry.ids.sync_id d.0;

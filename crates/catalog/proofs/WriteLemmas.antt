@@ -1,5 +1,5 @@
 -- A catalog's text grows by one member, and by one entry, after another.
-use Rattle.std.proofs.Common.{◌≡◌, ◌⊎◌, inl, inr, ℕ, zero, suc, List, [], ◌∷◌, ◌++◌, refl, sym, ◌∙◌, ap, subst, arith, ◌<◌, ◌≤◌, ◌+◌, length, take, map, slice_get, slice_index_or, codes, Bool, cond, nat_eq, append_assoc, append-nil, Some, decimal, length-append}
+use Rattle.std.proofs.Common.{◌≡◌, ℕ, zero, suc, List, [], ◌∷◌, ◌++◌, refl, sym, ◌∙◌, ap, subst, arith, ◌<◌, ◌≤◌, ◌+◌, length, take, map, slice_get, slice_index_or, codes, Bool, cond, nat_eq, append_assoc, append-nil, Some, decimal, length-append}
 use Rattle.std.specs.List.{AllZip, zip}
 use Rattle.std.proofs.lemmas.List.{take_more, take_all}
 use Rattle.std.proofs.lemmas.Bool.{ne_eqb}
@@ -8,37 +8,17 @@ use Rattle.json_span.specs.Members.{AreMembers, text_at}
 use Rattle.json_span.specs.declared.Member.{Member}
 use Rattle.json_fields.specs.Answer.{IsOnly}
 use Rattle.json_fields.specs.Fields.{line_depth}
+use Rattle.json_fields.specs.Parts.{Keeps}
+use Rattle.json_fields.proofs.KeepsLemmas.{keeps_only, step_added, step_dropped}
 use Rattle.json_write.specs.Laws.{part_at}
 use Rattle.json_write.specs.Objects.{Part, named, part_before, object_text, list_text, open_list, more_items}
 use Rattle.json_write.proofs.Texts.{grows, closes, list_closes, more_items-append}
 use Rattle.catalog.specs.declared.stream.ConfStream.{ConfStream}
 use Rattle.catalog.specs.declared.stream.Gen.{Gen}
-use Rattle.catalog.specs.Written.{IsGenerationKey, Keeps, IsEntryText, AreEntryTexts, IsCatalogText, GrowsByKept, GrowsByEntry, mark_behind, begun_object, gen_parts, OneCatalogText}
+use Rattle.catalog.specs.Written.{IsGenerationKey, IsEntryText, AreEntryTexts, IsCatalogText, GrowsByKept, GrowsByEntry, mark_behind, begun_object, gen_parts, OneCatalogText}
 use Rattle.catalog.proofs.OneLemmas.{one_members, all_one}
 
 -- ---- the members that are kept
-
-Keeps-drops : (entry : List ℕ) (members kept : List Member) (m : Member) → Keeps entry members kept → IsGenerationKey (text_at entry m.key) → Keeps entry (members ++ m ∷ []) kept
-Keeps-drops entry [] kept m h is = ([], refl, inl (is, h))
-Keeps-drops entry (x ∷ members) kept m h is = (h.0, Keeps-drops entry members h.0 m h.1 is, h.2)
-
-Keeps-more : (entry : List ℕ) (members kept : List Member) (m : Member) → Keeps entry members kept → ¬ IsGenerationKey (text_at entry m.key) → Keeps entry (members ++ m ∷ []) (kept ++ m ∷ [])
-Keeps-more entry [] kept m h other = ([], refl, inr (other, ap (λ (ms : List Member). ms ++ m ∷ []) h))
-Keeps-more entry (x ∷ members) kept m h other = (h.0 ++ m ∷ [], Keeps-more entry members h.0 m h.1 other, step h.2)
-  where
-    step : (IsGenerationKey (text_at entry x.key) × (kept ≡ h.0)) ⊎ ((¬ IsGenerationKey (text_at entry x.key)) × (kept ≡ x ∷ h.0)) → (IsGenerationKey (text_at entry x.key) × (kept ++ m ∷ [] ≡ h.0 ++ m ∷ [])) ⊎ ((¬ IsGenerationKey (text_at entry x.key)) × (kept ++ m ∷ [] ≡ x ∷ (h.0 ++ m ∷ [])))
-    step (inl a) = inl (a.0, ap (λ (ms : List Member). ms ++ m ∷ []) a.1)
-    step (inr a) = inr (a.0, ap (λ (ms : List Member). ms ++ m ∷ []) a.1)
-
-kept_same : (entry : List ℕ) (x : Member) (left right kept others : List Member) → right ≡ left → (IsGenerationKey (text_at entry x.key) × (kept ≡ left)) ⊎ ((¬ IsGenerationKey (text_at entry x.key)) × (kept ≡ x ∷ left)) → (IsGenerationKey (text_at entry x.key) × (others ≡ right)) ⊎ ((¬ IsGenerationKey (text_at entry x.key)) × (others ≡ x ∷ right)) → others ≡ kept
-kept_same entry x left right kept others rest (inl p) (inl q) = q.1 ∙ (rest ∙ sym p.1)
-kept_same entry x left right kept others rest (inl p) (inr q) = absurd (q.0 p.0)
-kept_same entry x left right kept others rest (inr p) (inl q) = absurd (p.0 q.0)
-kept_same entry x left right kept others rest (inr p) (inr q) = q.1 ∙ (ap (λ (ms : List Member). x ∷ ms) rest ∙ sym p.1)
-
-Keeps-only : (entry : List ℕ) (members kept others : List Member) → Keeps entry members kept → Keeps entry members others → others ≡ kept
-Keeps-only entry [] kept others a b = b ∙ sym a
-Keeps-only entry (x ∷ members) kept others a b = kept_same entry x a.0 b.0 kept others (Keeps-only entry members a.0 b.0 a.1 b.1) a.2 b.2
 
 -- one member more, with the mark before it
 part_more : (parts : List Part) (part : Part) (mark : ℕ) (old text next : List ℕ) → mark ≡ mark_behind parts → text ≡ old ++ begun_object parts → next ≡ text ++ mark ∷ part_before part [] → next ≡ old ++ begun_object (parts ++ part ∷ [])
@@ -59,7 +39,7 @@ kept_first entry mark old m = record { kept = []; keeps = refl; marked = m; grew
 pub kept_skip : (entry : List ℕ) (members : List Member) (i : ℕ) (d : Member) (key : List ℕ) (mark next_mark : ℕ) (old text next : List ℕ) → i < length members → key ≡ text_at entry (slice_index_or members i d).key → IsGenerationKey key → next_mark ≡ mark → next ≡ text → GrowsByKept entry (take i members) mark old text → GrowsByKept entry (take (i + 1) members) next_mark old next
 kept_skip entry members i d key mark next_mark old text next lt at is m e g = record {
   kept = g.kept;
-  keeps = subst (λ (ms : List Member). Keeps entry ms g.kept) (sym (take_more members i d lt)) (Keeps-drops entry (take i members) g.kept (slice_index_or members i d) g.keeps (subst IsGenerationKey at is));
+  keeps = step_dropped IsGenerationKey entry members i d key g.kept lt at is g.keeps;
   marked = m ∙ g.marked;
   grew = e ∙ g.grew;
 }
@@ -70,7 +50,7 @@ kept_more entry members i d key mark next_mark old text next lt at other m e g =
     let parts = map (part_at entry) g.kept in
     record {
       kept = g.kept ++ member ∷ [];
-      keeps = subst (λ (ms : List Member). Keeps entry ms (g.kept ++ member ∷ [])) (sym (take_more members i d lt)) (Keeps-more entry (take i members) g.kept member g.keeps (λ is. other (subst IsGenerationKey (sym at) is)));
+      keeps = step_added IsGenerationKey entry members i d key g.kept lt at other g.keeps;
       marked = m ∙ (behind_more parts (part_at entry member) ∙ ap mark_behind (sym (map_more entry g.kept member)));
       grew = part_more parts (part_at entry member) mark old text next g.marked g.grew e ∙ ap (λ (ps : List Part). old ++ begun_object ps) (sym (map_more entry g.kept member));
     }
@@ -178,7 +158,7 @@ one_entry_text : (pair : ConfStream × Gen) (text other : List ℕ) → IsPairTe
 one_entry_text pair text other a b =
     let entry = pair.0.raw_entry in
     let members = one_members line_depth entry a.members b.members a.are b.are in
-    let kept = Keeps-only entry a.members a.kept b.kept a.keeps (subst (λ (ms : List Member). Keeps entry ms b.kept) members b.keeps) in
+    let kept = keeps_only IsGenerationKey entry a.members a.kept b.kept a.keeps (subst (λ (ms : List Member). Keeps IsGenerationKey entry ms b.kept) members b.keeps) in
     b.is ∙ (ap (λ (ms : List Member). object_text (map (part_at entry) ms ++ gen_parts pair.1)) kept ∙ sym a.is)
 
 pub one_text : OneCatalogText

@@ -72,6 +72,12 @@ pub record IsStream (stream : List ℕ) (part : StreamPart) : Type 0 where
   pub resumable : IsTrue part.resumable ↔ HasField stream (codes "is_resumable") (codes "true")
   pub schema : HasSchema stream part.schema
 
+-- the entry's member `stream` says this
+pub record HasStream (text : List ℕ) (part : StreamPart) : Type 0 where
+  pub held : List ℕ
+  pub field : HasField text (codes "stream") held
+  pub is : IsStream held part
+
 -- the generation, the minimum generation and the sync's id
 pub record HasIds (text : List ℕ) (ids : Ids) : Type 0 where
   pub generation : HasOptionalCount text (codes "generation_id") ids.generation
@@ -80,9 +86,7 @@ pub record HasIds (text : List ℕ) (ids : Ids) : Type 0 where
 
 -- The entry's members say this: each that is required is there, and each has its form.
 pub record IsEntry (text : List ℕ) (entry : Entry) : Type 0 where
-  pub held : List ℕ
-  pub field : HasField text (codes "stream") held
-  pub stream : IsStream held entry.stream
+  pub stream : HasStream text entry.stream
   pub sync : HasText text (codes "sync_mode") entry.sync
   pub dest : HasText text (codes "destination_sync_mode") entry.dest
   pub cursor : HasOptionalList IsPath text (codes "cursor_field") entry.cursor

@@ -3,10 +3,11 @@
 use Rattle.std.specs.Prelude.{◌≡◌, ◌⊎◌, ℕ, ◌≤◌, List, [], ◌∷◌, ◌++◌, map, length, Some, Ok, All, codes, decimal}
 use Rattle.std.specs.List.{AllZip, zip}
 use Rattle.json_scalar.specs.Text.{IsString}
-use Rattle.json_span.specs.Members.{AreMembers, text_at}
+use Rattle.json_span.specs.Members.{AreMembers}
 use Rattle.json_span.specs.declared.Member.{Member}
 use Rattle.json_fields.specs.Answer.{IsOnly}
 use Rattle.json_fields.specs.Fields.{line_depth}
+use Rattle.json_fields.specs.Parts.{Keeps}
 use Rattle.json_write.specs.Objects.{Part, named, object_text, open_object, list_text}
 use Rattle.json_write.specs.Laws.{part_at}
 use Rattle.basics.specs.declared.limits.TheConstants.{GREATEST_GENERATION}
@@ -19,13 +20,6 @@ use Rattle.catalog.specs.Reading.{ReadsAs}
 abbrev pub IsGenerationKey : List ℕ → Type 0
 IsGenerationKey key = IsString key (codes "generation_id") ⊎ IsString key (codes "minimum_generation_id")
 
--- the members that are no generations, in order
-abbrev pub Keeps : List ℕ → List Member → List Member → Type 0
-Keeps entry [] kept = kept ≡ []
-Keeps entry (member ∷ members) kept =
-    (others : List Member) × Keeps entry members others
-    × ((IsGenerationKey (text_at entry member.key) × (kept ≡ others)) ⊎ ((¬ IsGenerationKey (text_at entry member.key)) × (kept ≡ member ∷ others)))
-
 -- the generations, as members
 abbrev pub gen_parts : Gen → List Part
 gen_parts gen = named (codes "generation_id") (decimal gen.generation) ∷ named (codes "minimum_generation_id") (decimal gen.minimum) ∷ []
@@ -35,7 +29,7 @@ pub record IsEntryText (entry : List ℕ) (gen : Gen) (text : List ℕ) : Type 0
   pub members : List Member
   pub are : AreMembers line_depth entry members
   pub kept : List Member
-  pub keeps : Keeps entry members kept
+  pub keeps : Keeps IsGenerationKey entry members kept
   pub is : text ≡ object_text (map (part_at entry) kept ++ gen_parts gen)
 
 -- For private clauses: the mark before a member behind these, and an object of them that is still open, or not begun.
@@ -50,7 +44,7 @@ begun_object (part ∷ parts) = open_object (part ∷ parts)
 -- the text has grown by the members that are kept, and this is the mark before the next
 pub record GrowsByKept (entry : List ℕ) (members : List Member) (mark : ℕ) (before now : List ℕ) : Type 0 where
   pub kept : List Member
-  pub keeps : Keeps entry members kept
+  pub keeps : Keeps IsGenerationKey entry members kept
   pub marked : mark ≡ mark_behind (map (part_at entry) kept)
   pub grew : now ≡ before ++ begun_object (map (part_at entry) kept)
 
@@ -83,6 +77,11 @@ with_gen pair entry = record pair.0 { generation = Some pair.1.generation; minim
 -- the streams with these generations
 abbrev pub with_gens : List ConfStream → List Gen → List (List ℕ) → List ConfStream
 with_gens streams gens entries = map (λ p. with_gen p.0 p.1) (zip (zip streams gens) entries)
+
+-- the text is the catalog of these streams with these generations, and reads as them
+pub record ReadsBack (streams : List ConfStream) (gens : List Gen) (text : List ℕ) : Type 0 where
+  pub is : IsCatalogText streams gens text
+  pub reads : IsOnly (ReadsAs text) (Ok (with_gens streams gens is.entries))
 
 -- The text of a catalog with generations that fit reads as its streams with these generations; all else of them is the same,
 -- but for their entries.

@@ -1,16 +1,17 @@
 // Paths and keys: arrays of names, and arrays of such arrays.
-ghost use Rattle.std.specs.Prelude.{All, IfOk};
+ghost use Rattle.std.specs.Prelude.{All, IfOk, IsTrue};
 ghost use Rattle.std.specs.List.{AllZip};
 ghost use Rattle.json_scalar.specs.Text.{IsString};
 ghost use Rattle.json_span.specs.Members.{text_at};
 ghost use Rattle.json_span.specs.Elements.{IsElementOf};
 ghost use Rattle.json_fields.specs.Answer.{IsAnswer};
 ghost use Rattle.json_fields.specs.Fields.{IsCut};
+ghost use Rattle.json_fields.specs.Words.{is_word};
 ghost use Rattle.catalog.specs.Entry.{HasOptionalList, IsKey, IsKeyPath, IsPath};
 
 use basics::{NoMemory, Path, PathList};
-use json_fields::{cut_list, optional};
-use json_span::{MAX_DEPTH, MemberList, Span, text_of};
+use json_fields::{cut_list, optional_in};
+use json_span::{MAX_DEPTH, Member, Span, text_of};
 use std::alloc::Global;
 
 // The names that the strings at these places stand for.
@@ -78,13 +79,14 @@ fn key_of(alloc: Global, text: &[u8]) -> Result<Option<PathList>, NoMemory>
 pub fn optional_path(
     alloc: Global,
     text: &[u8],
-    members: &MemberList,
+    members: &[Member],
     name: &str,
 ) -> Result<Option<Path>, NoMemory>
-    requires { IsCut text.now members.now }
+    requires cut { IsCut text.now members.now }
+    requires word { IsTrue (is_word name.now) }
     ensures { IfOk result (IsAnswer (HasOptionalList IsPath text.now name.now)) }
 {
-    match optional(alloc, text, members, name)? {
+    match optional_in(alloc, text, members, name)? {
         Some(held) => path_of(alloc, held),
         None => Ok(Some(Path::new(alloc))),
     }
@@ -94,13 +96,14 @@ pub fn optional_path(
 pub fn optional_key(
     alloc: Global,
     text: &[u8],
-    members: &MemberList,
+    members: &[Member],
     name: &str,
 ) -> Result<Option<PathList>, NoMemory>
-    requires { IsCut text.now members.now }
+    requires cut { IsCut text.now members.now }
+    requires word { IsTrue (is_word name.now) }
     ensures { IfOk result (IsAnswer (HasOptionalList IsKey text.now name.now)) }
 {
-    match optional(alloc, text, members, name)? {
+    match optional_in(alloc, text, members, name)? {
         Some(held) => key_of(alloc, held),
         None => Ok(Some(PathList::new(alloc))),
     }

@@ -12,12 +12,17 @@ use crate::judge::judged;
 use crate::members::entry_of;
 use basics::{Bytes, MOST_STREAMS};
 use json_fields::{cut, cut_list, field};
-use json_span::{MAX_DEPTH, Span};
+use json_span::{DeepMembers, MAX_DEPTH, Span};
 use outside::CatalogFault;
 use std::alloc::Global;
 
 // Reads one entry, behind those that were read.
-fn read_entry(alloc: Global, configured: &mut Configured, text: &[u8]) -> Result<(), CatalogFault>
+fn read_entry(
+    alloc: Global,
+    levels: &mut DeepMembers,
+    configured: &mut Configured,
+    text: &[u8],
+) -> Result<(), CatalogFault>
     requires room { length configured.old < MOST_STREAMS }
     requires value { IsValue text.now }
     requires nests { NestsAtMost entry_depth text.now }
@@ -25,7 +30,7 @@ fn read_entry(alloc: Global, configured: &mut Configured, text: &[u8]) -> Result
     ensures refused { IfErr result (λ fault. fault ≢ CatalogFault.NoMemory → ReadsEntry configured.old text.now (Err fault)) }
 {
     let n = configured.len();
-    let Some(entry) = entry_of(alloc, text)? else {
+    let Some(entry) = entry_of(alloc, levels, text)? else {
         return Err(CatalogFault::Missing { stream: n });
     };
     let stream = judged(n, entry, Bytes::copy_of(alloc, text)?)?;
@@ -44,9 +49,10 @@ fn read_entries(alloc: Global, list: &[u8], spans: &[Span]) -> Result<Configured
     ensures read { IfOk result (λ configured. ReadsEntries list.now [] spans.now (Ok configured)) }
     ensures refused { IfErr result (λ fault. fault ≢ CatalogFault.NoMemory → ReadsEntries list.now [] spans.now (Err fault)) }
 {
+    let mut levels = DeepMembers::new(alloc);
     let mut configured = Configured::empty(alloc);
     for span in spans {
-        read_entry(alloc, &mut configured, span.of(list))?;
+        read_entry(alloc, &mut levels, &mut configured, span.of(list))?;
     }
     Ok(configured)
 }

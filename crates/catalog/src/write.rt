@@ -6,7 +6,7 @@ ghost use Rattle.json_fields.specs.Parts.{NestsWithin};
 ghost use Rattle.json_write.specs.Laws.{part_at};
 ghost use Rattle.json_write.specs.Objects.{part_before};
 ghost use Rattle.catalog.specs.Configured.{entry_depth};
-ghost use Rattle.catalog.specs.Written.{GrowsByEntry, GrowsByKept, IsCatalogText, IsGenerationKey, OneCatalogText};
+ghost use Rattle.catalog.specs.Written.{CatalogsReadBack, GrowsByEntry, GrowsByKept, IsCatalogText, IsFit, IsGenerationKey, OneCatalogText, ReadsBack};
 
 use crate::{Configured, Gen, GenList};
 use basics::{Bytes, NoMemory};
@@ -72,14 +72,16 @@ fn put_entry(alloc: Global, text: &mut Bytes, entry: &[u8], numbers: Gen) -> Res
 }
 
 /// Writes a catalog with these generations, one for each stream: the members of each entry as they stood, in order, but for
-/// `generation_id` and `minimum_generation_id`, which come last.
+/// `generation_id` and `minimum_generation_id`, which come last. Where the generations are such as a catalog may have, the text
+/// reads back with them, and all else of each stream but its entry is as it was.
 pub fn write_catalog(
     alloc: Global,
     configured: &Configured,
     gens: &GenList,
 ) -> Result<Bytes, NoMemory>
     requires { length gens.now ≡ length configured.now }
-    ensures { IfOk result (IsOnly (IsCatalogText configured.now gens.now)) }
+    ensures text { IfOk result (IsOnly (IsCatalogText configured.now gens.now)) }
+    ensures back { IfOk result (λ text. All IsFit gens.now → ReadsBack configured.now gens.now text) }
 {
     let mut text = Bytes::new(alloc);
     put_key(&mut text, b'{', "streams")?;
@@ -102,4 +104,9 @@ pub fn write_catalog(
 /// A law: streams with their generations have one text.
 pub fn one_catalog_text()
     ensures { OneCatalogText }
+{}
+
+/// A law: the text of a catalog with generations that a catalog may have reads back with them, and with all else as it was.
+pub fn catalogs_read_back()
+    ensures { CatalogsReadBack }
 {}

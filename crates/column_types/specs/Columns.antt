@@ -1,6 +1,6 @@
 -- The columns of a stream: the properties of its JSON Schema, in order. Of a repeated name only the last stands, at its
 -- own place.
-use Rattle.std.specs.Prelude.{◌≡◌, ◌⊎◌, ℕ, List, [], ◌∷◌, codes, Bool, true, false, ◌&&◌, if◌then◌else◌}
+use Rattle.std.specs.Prelude.{◌≡◌, ◌⊎◌, ℕ, List, [], ◌∷◌, codes, Bool, true, false, ◌&&◌, if◌then◌else◌, map}
 use Rattle.std.specs.List.{list_any}
 use Rattle.std.specs.Str.{bytes_eq}
 use Rattle.json_scalar.specs.Text.{IsString}
@@ -20,6 +20,9 @@ pub record IsColumnOf (text : List ℕ) (member : Member) (column : Column) : Ty
 -- whether one of the columns has this name
 abbrev pub has_name : List ℕ → List Column → Bool
 has_name name columns = list_any (λ column. bytes_eq column.name name) columns
+
+abbrev pub names_of : List Column → List (List ℕ)
+names_of columns = map (λ column. column.name) columns
 
 -- a property's column stands in front of the later ones, where none of them has its name
 abbrev pub IsAddedTo : List Column → Column → List Column → Type 0

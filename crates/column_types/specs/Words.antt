@@ -1,4 +1,4 @@
--- For private clauses: words of JSON, decimals of either form, and values at the end of a path from a value on.
+-- Values at the end of a path from a value on; and for private clauses words of JSON, and decimals of either form.
 use Rattle.std.specs.Prelude.{◌≡◌, ◌⊎◌, ℕ, List, Bool, Option, codes}
 use Rattle.json_scalar.specs.declared.decimal.Decimal.{Decimal as LiteralDecimal}
 use Rattle.value_order.specs.declared.decimal.Decimal.{Decimal}
@@ -9,6 +9,7 @@ use Rattle.column_types.specs.Values.{Reaches, IsFoundValue}
 abbrev pub IsWord : List ℕ → Type 0
 IsWord text = (text ≡ codes "null") ⊎ ((text ≡ codes "true") ⊎ (text ≡ codes "false"))
 
+-- the value at the end of a path from this text on, where strings may be instants
 pub record IsValueAlong (text : List ℕ) (names : List (List ℕ)) (instants : Bool) (value : Value) : Type 0 where
   pub found : Option (List ℕ)
   pub reached : Reaches text names found

@@ -1,18 +1,19 @@
 // The columns of a schema.
-ghost use Rattle.std.specs.Prelude.{◌≡◌, ◌≢◌, ◌<◌, ◌↔◌, ◌++◌, ◌∷◌, [], ℕ, List, length, slice_get, Some, IfOk, IfSome, IfNone, OnOk, IsTrue, All, ◌&&◌, codes};
+ghost use Rattle.std.specs.Prelude.{◌≡◌, ◌≢◌, ◌<◌, ◌↔◌, ◌++◌, ◌∷◌, [], ℕ, List, length, slice_get, Some, IfOk, IfSome, IfNone, OnOk, IsTrue, All, ◌&&◌, codes, reverse};
 ghost use Rattle.std.specs.List.{list_any};
 ghost use Rattle.std.specs.Option.{option_copied};
 ghost use Rattle.std.specs.Str.{bytes_eq};
 ghost use Rattle.json_fields.specs.Answer.{IsAnswer, IsOnly};
 ghost use Rattle.json_span.specs.Members.{IsMemberOf};
 ghost use Rattle.json_fields.specs.Fields.{HasField};
-ghost use Rattle.column_types.specs.Columns.{AreColumns, has_name as named, IsColumnOf, ListsColumns, is_instant_kind, is_instant_path};
+ghost use Rattle.column_types.specs.Columns.{AreColumns, IsAddedTo, IsColumnOf, ListsColumns, is_instant_kind, is_instant_path, names_of};
 
 use crate::property::kind_of;
 use crate::{Column, ColumnType, Columns};
 use basics::{NoMemory, Path};
 use json_fields::{cut, field};
 use json_span::{MAX_DEPTH, Member, text_of};
+use name_index::NameIndex;
 use std::alloc::Global;
 
 /// The columns of a schema: the members of its `properties`, in order. A text that is no object, has no object
@@ -52,16 +53,37 @@ fn listed(alloc: Global, text: &[u8], members: &[Member]) -> Result<Columns, NoM
     requires { All (IsMemberOf text.now) members.now }
     ensures { IfOk result (ListsColumns text.now members.now) }
 {
-    let mut columns = Columns::new(alloc);
+    let mut names = NameIndex::new(alloc);
+    let mut columns = Vec::new(alloc);
     let mut at = members.len();
     while at > 0 {
         at -= 1;
         let column = column_of(alloc, text, &members[at])?;
-        if !has_name(columns.as_slice(), column.name.as_str()) {
-            columns.insert(0, column)?;
+        add_new(alloc, &mut names, &mut columns, column)?;
+    }
+    columns.reverse();
+    Ok(Columns::from_vec(columns))
+}
+
+// Puts a column behind the others, where none of them has its name. The columns stand from the last on.
+fn add_new(
+    alloc: Global,
+    names: &mut NameIndex,
+    columns: &mut Vec<Column>,
+    column: Column,
+) -> Result<(), NoMemory>
+    requires { names.old ≡ names_of columns.old.items }
+    ensures names { OnOk result (names.new ≡ names_of columns.new.items) }
+    ensures added { OnOk result (IsAddedTo (reverse columns.old.items) column (reverse columns.new.items)) }
+{
+    match names.find(column.name.as_str()) {
+        Some(_) => Ok(()),
+        None => {
+            names.add(alloc, column.name.as_str())?;
+            columns.push(column)?;
+            Ok(())
         }
     }
-    Ok(columns)
 }
 
 // The column of a property.
@@ -74,13 +96,6 @@ fn column_of(alloc: Global, text: &[u8], member: &Member) -> Result<Column, NoMe
         Some(name) => Ok(Column { name, kind }),
         None => unreachable!(),
     }
-}
-
-// Whether one of the columns has this name.
-fn has_name(columns: &[Column], name: &str) -> bool
-    ensures { result ≡ named name.now columns.now }
-{
-    columns.iter().any(|column| column.name.as_str() == name)
 }
 
 /// Whether a path is one name, that of an Instant column.

@@ -54,8 +54,8 @@ pub fn value_in(
     }
 }
 
-// The value at the end of a path from a value on.
-fn value_along(
+/// The value at the end of a path from a value on: what is missing counts as null, and at the empty path stands the value.
+pub fn value_along(
     alloc: Global,
     text: &[u8],
     names: &[Name],

@@ -8,7 +8,7 @@ use Rattle.outside.specs.declared.event.RawRow.{RawRow}
 use Rattle.outside.proofs.ToldLaws.{all_both, all_map}
 use Rattle.value_order.specs.declared.value.Value.{Value}
 use Rattle.dedup_merge.specs.Winners.{Candidate, candidate_row, rank, HasCursor, IsLess, IsNotMore, IsWinnerAmong}
-use Rattle.dedup_merge.specs.Steps.{candidate_of, Exceeds, IsBetter, IsAlone, IsBest, HasValue}
+use Rattle.dedup_merge.specs.Steps.{candidate_of, Exceeds, IsBetter, IsBest}
 use Rattle.dedup_merge.proofs.RankLemmas.{below_next, held_below, less_not_more, one_cursor}
 
 all_at : (P : Candidate → Type 0) (xs : List Candidate) (x : Candidate) (ys : List Candidate) → AllByRecursion P (xs ++ x ∷ ys) → P x

@@ -1,16 +1,15 @@
 -- Keys of rows and of winners.
-use Rattle.std.proofs.Common.{◌≡◌, ℕ, ◌+◌, ◌≤◌, suc, List, [], ◌∷◌, ◌++◌, length, fold, filter, Bool, true, false, cond, Option, None, Some, Ordering, Less, Equal, Greater, nat_cmp, refl, sym, ◌∙◌, ap, subst, arith}
-use Rattle.std.specs.Prelude.{if◌then◌else◌, is_some, ◌||◌}
+use Rattle.std.proofs.Common.{◌≡◌, ℕ, ◌+◌, ◌≤◌, List, [], ◌∷◌, ◌++◌, length, fold, Bool, true, false, cond, None, Some, Less, Greater, nat_cmp, refl, sym, ◌∙◌, ap, subst, arith}
+use Rattle.std.specs.Prelude.{if◌then◌else◌, ◌||◌}
 use Rattle.std.specs.Str.{bytes_eq}
-use Rattle.std.specs.List.{AllByRecursion, list_any}
-use Rattle.std.specs.Ordering.{match_ordering, ordering_reverse}
-use Rattle.std.specs.Cmp.{IsTotalOrder}
+use Rattle.std.specs.List.{AllByRecursion}
+use Rattle.std.specs.Ordering.{ordering_reverse}
 use Rattle.std.specs.Cmp.Lexicographic.{slice_cmp, nat_list_cmp_total}
 use Rattle.std.proofs.lemmas.List.Sums.{fold-append}
 use Rattle.std.proofs.lemmas.List.{length-append}
 use Rattle.outside.specs.declared.event.RawRow.{RawRow}
 use Rattle.outside.specs.Winners.{put_winner, put_winners, winner_in}
-use Rattle.outside.proofs.WinnerLaws.{put_at, by_bool, by_order, key_is, key_own, key_back, keys_equal}
+use Rattle.outside.proofs.WinnerLaws.{put_at, by_bool, by_order, key_is, key_back, keys_equal}
 use Rattle.outside.proofs.ToldLaws.{all_map}
 use Rattle.dedup_merge.specs.Winners.{KeysRise, IsKeyBelow, keys_of, with_key, is_key_in, rows_of_key, is_of_key}
 use Rattle.dedup_merge.specs.Steps.{or_else}

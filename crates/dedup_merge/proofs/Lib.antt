@@ -3,3 +3,9 @@ pub mod AmongLemmas
 pub mod KeyLemmas
 pub mod StepLemmas
 pub mod PageLemmas
+pub mod JoinLemmas
+pub mod SameRowLemmas
+pub mod LeftLemmas
+pub mod StandLemmas
+pub mod FitLemmas
+pub mod SideLemmas

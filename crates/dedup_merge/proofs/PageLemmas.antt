@@ -1,28 +1,43 @@
 -- Reads of a dock one after another, and a page that is merged.
-use Rattle.std.proofs.Common.{◌≡◌, ◌⊎◌, inl, inr, ℕ, ◌+◌, ◌*◌, ◌<◌, ◌≤◌, ◌^◌, zero, suc, List, [], ◌∷◌, ◌++◌, take, drop, min, max, ◌-◌, length, get_or, Option, None, Some, refl, sym, ◌∙◌, ap, subst, arith}
-use Rattle.std.specs.Prelude.{IfSome, option_map}
+use Rattle.std.proofs.Common.{◌≡◌, inl, inr, ℕ, ◌+◌, ◌*◌, ◌<◌, ◌≤◌, zero, suc, List, [], ◌∷◌, ◌++◌, take, drop, length, get_or, nat_lt, true, false, length-drop, Option, None, Some, Err, refl, sym, ◌∙◌, ap, subst, arith}
+use Rattle.std.specs.Prelude.{IfSome, option_map, ◌≢◌}
 use Rattle.std.proofs.lemmas.List.{take_more}
-use Rattle.basics.specs.Told.{Rose, RoseIf}
+use Rattle.basics.specs.Told.{RoseIf, told_more}
 use Rattle.outside.specs.declared.dock.DockTally.{DockTally}
 use Rattle.outside.specs.declared.event.Event.{Event}
 use Rattle.outside.specs.declared.event.RawRow.{RawRow}
-use Rattle.outside.specs.Dock.{DockSeen, DockFace, dock_events, tables, ReadAtMost}
-use Rattle.outside.specs.Tables.{tables_of, winners_at, page_of}
+use Rattle.outside.specs.Dock.{DockSeen, dock_events, tables, ReadAtMost}
+use Rattle.outside.specs.declared.event.Event.TheVariants.{Merged}
+use Rattle.outside.specs.declared.event.StreamPlan.{StreamPlan}
+use Rattle.outside.specs.declared.fault.Fault.{Fault}
+use Rattle.outside.specs.declared.fault.Fault.TheVariants as fault
+use Rattle.outside.specs.declared.table.PlacedRow.{PlacedRow}
+use Rattle.outside.specs.Link.{AddsOn}
+use Rattle.outside.specs.Tables.{no_tables, tables_of, tables_after, plan_at, winners_at, page_for, page_of}
+use Rattle.outside.proofs.PlaceLaws.{tables_rise}
+use Rattle.std.proofs.lemmas.Bool.Decides.{nat_tests}
+use Rattle.std.proofs.lemmas.List.Sums.{fold-append}
+use Rattle.dedup_merge.specs.Faults.{fault_of}
+use Rattle.dedup_merge.specs.Merges.{unmerged_for, unmerged_at}
+use Rattle.dedup_merge.proofs.LeftLemmas.{left_at, lt_is, lt_from}
+use Rattle.dedup_merge.proofs.StandLemmas.{stands_on, all_merged}
+use Rattle.dedup_merge.proofs.FitLemmas.{page_fits}
+use Rattle.dedup_merge.proofs.SideLemmas.{side_fits}
 use Rattle.outside.specs.declared.load.Unmerged.{Unmerged}
 use Rattle.outside.specs.declared.table.Tables.{Tables}
 use Rattle.outside.specs.Winners.{put_winners}
 use Rattle.outside.specs.Dock.{IsPage, RoseExactlyBy}
 use Rattle.std.proofs.lemmas.List.{take-append-drop}
-use Rattle.dedup_merge.specs.Pages.{TakesIn, IsPageMerge}
+use Rattle.dedup_merge.specs.Pages.{TakesIn, IsPageMerge, IsMergedWhole, FitsBehind, PageAdds}
 use Rattle.dedup_merge.proofs.KeyLemmas.{count_capped, count_of_front}
 use Rattle.dedup_merge.proofs.StepLemmas.{takes_in}
 use Rattle.outside.proofs.DockLaws.{read_wider}
 use Rattle.outside.specs.Winners.{winner_in}
-use Rattle.outside.proofs.ToldLaws.{rose_later, rose_sooner}
+use Rattle.outside.proofs.ToldLaws.{rose_later}
 use Rattle.outside.proofs.DockLaws.{dock_grew_refl, dock_grew_trans, read_more}
-use Rattle.dedup_merge.specs.Winners.{KeysRise, keys_of, key_count}
-use Rattle.dedup_merge.specs.Steps.{TakesRow, TakesFrom, ReadsOnly, BestSoFar, KnowsKeys, side_of_store, reads_for, or_else}
-use Rattle.dedup_merge.proofs.StepLemmas.{still_rises, still_knows, still_best, reads_counted}
+use Rattle.dedup_merge.specs.Winners.{KeysRise, key_count}
+use Rattle.dedup_merge.specs.Steps.{TakesFrom, ReadsOnly, BestSoFar, KnowsKeys, side_of_store, reads_for, or_else}
+use Rattle.dedup_merge.proofs.StepLemmas.{still_best, reads_counted}
 
 pub only_refl : (a : DockSeen) → ReadsOnly a a
 only_refl a = record { grew = dock_grew_refl a; events = refl; face = refl; counts = refl }
@@ -87,9 +102,72 @@ page_reads next rows mark page a b c is_page rose same read =
     let most = read.most in
     record { kept = omega arith; most = omega arith }
 
-pub page_merge : (told : Option Tables) (stream page : ℕ) (next : Unmerged) (rows written : List RawRow) → IfSome told (λ store. next ≡ page_of store stream page) → rows ≡ next.rows → IfSome (side_of_store stream told) (λ before. TakesIn rows before (put_winners before written)) → IfSome told (λ store. IsPageMerge store stream page written next.mark)
+pub page_merge : (told : Option (List Event)) (stream page : ℕ) (next : Unmerged) (rows written : List RawRow) → IfSome (option_map tables_of told) (λ store. next ≡ page_of store stream page) → rows ≡ next.rows → IfSome (side_of_store stream (option_map tables_of told)) (λ before. TakesIn rows before (put_winners before written)) → IfSome (option_map tables_of told) (λ store. IsPageMerge store stream page written next.mark)
 page_merge None stream page next rows written is same takes = is
-page_merge (Some store) stream page next rows written is same takes = record {
-  mark_is = ap (λ (u : Unmerged). u.mark) is;
-  winners = subst (λ (rs : List RawRow). TakesIn rs (winners_at store stream) (put_winners (winners_at store stream) written)) (same ∙ ap (λ (u : Unmerged). u.rows) is) takes;
-}
+page_merge (Some events) stream page next rows written is same takes =
+    let store = tables_of events in
+    let ends : next.mark ≡ (page_of (tables_of events) stream page).mark = ap (λ (u : Unmerged). u.mark) is in
+    let winners : TakesIn (page_of (tables_of events) stream page).rows (winners_at (tables_of events) stream) (put_winners (winners_at (tables_of events) stream) written) = subst (λ (rs : List RawRow). TakesIn rs (winners_at (tables_of events) stream) (put_winners (winners_at (tables_of events) stream) written)) (same ∙ ap (λ (u : Unmerged). u.rows) is) takes in
+    record {
+      mark_is = ends;
+      winners = winners;
+      left = left_at store stream page written next.mark (tables_rise events) ends;
+      stands = stands_on store stream page written next.mark (tables_rise events) ends winners;
+    }
+
+pub page_behind : (told : Option (List Event)) (stream page : ℕ) (next : Unmerged) (written : List RawRow) → IfSome (option_map tables_of told) (λ store. next ≡ page_of store stream page) → IfSome (option_map tables_of told) (λ store. IsPageMerge store stream page written next.mark) → IfSome told (FitsBehind stream written next.mark)
+page_behind None stream page next written is merge = is
+page_behind (Some events) stream page next written is merge = λ known fit. (let side = side_fits events stream fit in page_fits events stream page written next.mark merge.mark_is merge.winners known side.0 side.1)
+
+-- What is left
+
+none_more : (most : ℕ) → false ≡ nat_lt most 0
+none_more most = grind (arith, nat_tests)
+
+page_more : (store : Tables) (stream most : ℕ) → (page_of store stream most).more ≡ nat_lt most (length (unmerged_at store stream))
+page_more store stream most = by_plan (plan_at store stream) where
+  by_plan : (plan : Option StreamPlan) → (page_for plan store most).more ≡ nat_lt most (length (unmerged_for plan store))
+  by_plan None = none_more most
+  by_plan (Some plan) = refl
+
+drop_some : (n : ℕ) (rows : List PlacedRow) → nat_lt n (length rows) ≡ true → drop n rows ≢ []
+drop_some n rows more none =
+    let left : length (drop n rows) ≡ 0 = ap length none in
+    let count = length-drop n rows in
+    let less = lt_is n (length rows) more in
+    omega arith
+
+drop_all : (n : ℕ) (rows : List PlacedRow) → nat_lt n (length rows) ≡ false → drop n rows ≡ []
+drop_all zero [] none = refl
+drop_all zero (row ∷ rows) none = absurd (let less : 0 < length (row ∷ rows) = omega arith in let t = lt_from 0 (length (row ∷ rows)) less in cc)
+drop_all (suc n) [] none = refl
+drop_all (suc n) (row ∷ rows) none = drop_all n rows (fewer n (length rows) none) where
+  fewer : (a b : ℕ) → nat_lt (suc a) (suc b) ≡ false → nat_lt a b ≡ false
+  fewer a b e = grind (arith, nat_tests)
+
+module _ (events : List Event) (stream page : ℕ) (next : Unmerged) (written : List RawRow) (is : next ≡ page_of (tables_of events) stream page) where
+  left_behind : unmerged_at (tables_of (events ++ Merged stream written next.mark ∷ [])) stream ≡ drop page (unmerged_at (tables_of events) stream)
+  left_behind = ap (λ (store : Tables). unmerged_at store stream) (fold-append tables_after no_tables events (Merged stream written next.mark ∷ [])) ∙ left_at (tables_of events) stream page written next.mark (tables_rise events) (ap (λ (u : Unmerged). u.mark) is)
+
+  more_left : next.more ≡ true → unmerged_at (tables_of (events ++ Merged stream written next.mark ∷ [])) stream ≢ []
+  more_left more none = drop_some page (unmerged_at (tables_of events) stream) (sym (ap (λ (u : Unmerged). u.more) is ∙ page_more (tables_of events) stream page) ∙ more) (sym left_behind ∙ none)
+
+  none_left : next.more ≡ false → unmerged_at (tables_of (events ++ Merged stream written next.mark ∷ [])) stream ≡ []
+  none_left done = left_behind ∙ drop_all page (unmerged_at (tables_of events) stream) (sym (ap (λ (u : Unmerged). u.more) is ∙ page_more (tables_of events) stream page) ∙ done)
+
+pub answer_more : (told now : Option (List Event)) (stream page : ℕ) (next : Unmerged) (written : List RawRow) → now ≡ told_more (Merged stream written next.mark ∷ []) told → IfSome (option_map tables_of told) (λ store. next ≡ page_of store stream page) → next.more ≡ true → IfSome (option_map tables_of now) (λ store. unmerged_at store stream ≢ [])
+answer_more None now stream page next written added is more = subst (λ (o : Option (List Event)). IfSome (option_map tables_of o) (λ store. unmerged_at store stream ≢ [])) (sym added) is
+answer_more (Some events) now stream page next written added is more = subst (λ (o : Option (List Event)). IfSome (option_map tables_of o) (λ store. unmerged_at store stream ≢ [])) (sym added) (more_left events stream page next written is more)
+
+pub answer_done : (told now : Option (List Event)) (stream page : ℕ) (next : Unmerged) (written : List RawRow) → now ≡ told_more (Merged stream written next.mark ∷ []) told → IfSome (option_map tables_of told) (λ store. next ≡ page_of store stream page) → next.more ≡ false → IfSome (option_map tables_of now) (λ store. IsMergedWhole store stream)
+answer_done None now stream page next written added is done = subst (λ (o : Option (List Event)). IfSome (option_map tables_of o) (λ store. IsMergedWhole store stream)) (sym added) is
+answer_done (Some events) now stream page next written added is done =
+    let store = tables_of (events ++ Merged stream written next.mark ∷ []) in
+    let none = none_left events stream page next written is done in
+    subst (λ (o : Option (List Event)). IfSome (option_map tables_of o) (λ store. IsMergedWhole store stream)) (sym added) (record { none_left = none; winners_are = λ merged stands stamps. all_merged store stream merged stands none stamps })
+
+-- a page that could not be merged
+pub page_failed : (why : Fault) (stream page mark : ℕ) (written : List RawRow) (old new : DockSeen) → AddsOn {T = Unit {0}} (Err why) (Merged stream written mark) (dock_events old) (dock_events new) → new.face ≡ old.face → IfSome (tables old) (λ store. IsPageMerge store stream page written mark) → IfSome (dock_events old) (FitsBehind stream written mark) → PageAdds (Err (fault_of why)) stream page old new
+page_failed fault.Failed stream page mark written old new (inl same) face merge fits = record { merges = inl same; face = face }
+page_failed fault.Failed stream page mark written old new (inr added) face merge fits = record { merges = inr (record { written = written; mark = mark; added = added; merge = merge; fits = fits }); face = face }
+page_failed fault.NoMemory stream page mark written old new adds face merge fits = record { events = adds; face = face }

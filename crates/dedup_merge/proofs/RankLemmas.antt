@@ -1,13 +1,12 @@
 -- The order of candidates.
-use Rattle.std.proofs.Common.{◌≡◌, ℕ, List, Ordering, Less, Equal, Greater, refl, sym, ◌∙◌, ap, nat_cmp, ◌⊎◌, inl, inr}
+use Rattle.std.proofs.Common.{◌≡◌, ℕ, List, Ordering, Less, Equal, Greater, refl, sym, ◌∙◌, ap, inl, inr}
 use Rattle.std.specs.Prelude.{◌≢◌}
 use Rattle.std.specs.Ordering.{ordering_reverse}
 use Rattle.std.specs.Cmp.{IsTotalOrder, nat_cmp_total, on_total, then_total}
-use Rattle.value_order.specs.Held.{IsHeld}
 use Rattle.value_order.specs.declared.value.Value.{Value}
 use Rattle.value_order.proofs.OrderLemmas.{order_total}
 use Rattle.value_order.proofs.TextLemmas.{texts_distinct}
-use Rattle.dedup_merge.specs.Cursors.{HasText, CountsAsNull, IsCursor}
+use Rattle.dedup_merge.specs.Cursors.{IsCursor}
 use Rattle.dedup_merge.specs.Winners.{Candidate, candidate_value, load_of, seq_of, rank}
 
 pub rank_total : IsTotalOrder rank

@@ -1,15 +1,15 @@
 -- One row more was taken in.
-use Rattle.std.proofs.Common.{◌≡◌, ◌⊎◌, inl, inr, ℕ, ◌+◌, ◌≤◌, List, [], ◌∷◌, ◌++◌, length, filter, Bool, true, false, cond, Option, None, Some, refl, sym, ◌∙◌, ap, subst, append_assoc, arith}
+use Rattle.std.proofs.Common.{◌≡◌, ◌⊎◌, inl, inr, ℕ, ◌+◌, List, [], ◌∷◌, ◌++◌, length, filter, Bool, true, false, cond, Option, None, Some, refl, sym, ◌∙◌, ap, subst, append_assoc}
 use Rattle.std.specs.Prelude.{if◌then◌else◌, is_some, option_to_list, IfSome}
 use Rattle.std.specs.Str.{bytes_eq}
 use Rattle.std.proofs.lemmas.List.{append-nil}
 use Rattle.outside.specs.declared.event.RawRow.{RawRow}
 use Rattle.outside.specs.Winners.{put_winner, put_winners, winner_in}
 use Rattle.outside.proofs.WinnerLaws.{put_at, by_bool, key_is, key_own}
-use Rattle.dedup_merge.specs.Winners.{KeysRise, keys_of, with_key, is_key_in, rows_of_key, IsWinnerAmong, WinsAmong, AreWinnersOf, has_key}
+use Rattle.dedup_merge.specs.Winners.{KeysRise, keys_of, is_key_in, rows_of_key, IsWinnerAmong, WinsAmong, has_key}
 use Rattle.outside.specs.declared.table.Tables.{Tables}
 use Rattle.outside.specs.Tables.{winner_of, winners_at}
-use Rattle.dedup_merge.specs.Steps.{Exceeds, side_of_store, IsBest, TakesKeyed, TakesRow, TakesOver, TakesFrom, or_else, IsSoFar, BestSoFar, KnowsKeys, reads_for}
+use Rattle.dedup_merge.specs.Steps.{Exceeds, side_of_store, IsBest, TakesKeyed, TakesRow, TakesOver, or_else, IsSoFar, BestSoFar, KnowsKeys, reads_for}
 use Rattle.dedup_merge.specs.Pages.{NowWins, TakesIn}
 use Rattle.dedup_merge.proofs.AmongLemmas.{one_more, first_row}
 use Rattle.dedup_merge.proofs.KeyLemmas.{of_key_more, keys_more, key_in_more, count_more, put_rises, read_all, found_key}

@@ -1,8 +1,6 @@
 -- For private clauses: one row after another is compared with the best of its key so far.
 use Rattle.std.specs.Prelude.{◌≡◌, ◌⊎◌, ℕ, List, [], ◌∷◌, ◌++◌, option_to_list, option_map, is_some, Bool, true, false, Option, None, Some, IfSome, if◌then◌else◌}
-use Rattle.std.specs.declared.cmp.Ordering.TheVariants.{Less, Equal, Greater}
 use Rattle.std.specs.Ordering.{is_gt}
-use Rattle.std.specs.Str.{bytes_eq}
 use Rattle.outside.specs.declared.event.RawRow.{RawRow}
 use Rattle.outside.specs.declared.table.Tables.{Tables}
 use Rattle.outside.specs.Dock.{DockSeen, DockGrew, dock_events}
@@ -10,7 +8,7 @@ use Rattle.outside.specs.Tables.{winners_at}
 use Rattle.outside.specs.Winners.{winner_in, put_winner}
 use Rattle.value_order.specs.declared.value.Value.{Value}
 use Rattle.dedup_merge.specs.Cursors.{IsCursor}
-use Rattle.dedup_merge.specs.Winners.{Candidate, rank, WinsAmong, rows_of_key, KeysRise, keys_of, is_key_in}
+use Rattle.dedup_merge.specs.Winners.{Candidate, rank, WinsAmong, rows_of_key, keys_of, is_key_in}
 
 abbrev pub candidate_of : RawRow → Value → Candidate
 candidate_of row value = record { row = row; value = value }

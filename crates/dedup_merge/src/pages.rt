@@ -114,13 +114,13 @@ fn winners_of_page<D: Dock>(
     for row in rows {
         take_row(alloc, dock, stream, &mut best, row)?;
     }
-    Ok(best.copied(alloc)?)
+    Ok(best.into_rows(alloc)?)
 }
 
 /// Merges the next rows of a stream that its side has not merged, at most `page` of them: reads them and the winner of
 /// each of their keys, and puts the winners of both into the store.
 ///
-/// `Done` comes exactly where no such row is left.
+/// `Done` comes exactly where no such row is left afterwards.
 pub fn merge_page<D: Dock>(
     alloc: Global,
     dock: &mut D,
@@ -132,7 +132,7 @@ pub fn merge_page<D: Dock>(
     ensures grew { DockGrew (D.seen dock.old) (D.seen dock.new) }
     ensures moves { DockMoves (D.seen dock.old) (D.seen dock.new) }
     ensures merges { PageAdds result stream page (D.seen dock.old) (D.seen dock.new) }
-    ensures answer { IfOk result (λ merged. IfSome (tables (D.seen dock.old)) (λ store. IsAnswer merged (page_of store stream page).more)) }
+    ensures answer { IfOk result (λ merged. IfSome (tables (D.seen dock.new)) (λ store. IsAnswer merged store stream)) }
     ensures rows_read { IfSome (tables (D.seen dock.old)) (λ store. ReadAtMost (rows_of_page store stream page) (D.seen dock.old).rows_read (D.seen dock.new).rows_read) }
     ensures rows_capped { ReadAtMost (2 * page) (D.seen dock.old).rows_read (D.seen dock.new).rows_read }
     ensures risen { result ≡ Ok Merged.More → slice_index (D.seen dock.old).face.side_marks stream < slice_index (D.seen dock.new).face.side_marks stream }

@@ -94,5 +94,5 @@ pub fn winners(alloc: Global, rows: &RawRowList) -> Result<RawRowList, NoMemory>
     for row in rows.as_slice() {
         take_keyed(alloc, &mut best, row)?;
     }
-    best.copied(alloc)
+    best.into_rows(alloc)
 }

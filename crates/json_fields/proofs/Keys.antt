@@ -7,7 +7,7 @@ use Rattle.std.proofs.lemmas.List.Elements.{All-cons}
 use Rattle.json_scalar.specs.Text.{IsString, is_plain}
 use Rattle.json_scalar.specs.Quotes.{in_quotes}
 use Rattle.json_scalar.proofs.Contents.{one_meaning}
-use Rattle.json_scalar.proofs.Plain.{plain_string, all_plain, first_other}
+use Rattle.json_scalar.proofs.Plain.{plain_string}
 use Rattle.json_span.specs.Members.{text_at}
 use Rattle.json_span.specs.declared.Member.{Member}
 use Rattle.json_fields.specs.Answer.{IsOnly}
@@ -49,12 +49,6 @@ module _ (key name : List ℕ) (s : IsSomeString key) where
 
   pub key_same : is_word name ≡ true → slice_range key 1 (length key - 1) ≡ name → IsString key name
   key_same word e = plain_string key name s.is.utf8 (spelled_by e) (plain_word name word)
-
-  pub key_other : ¬ (slice_range key 1 (length key - 1) ≡ name) → first_other (slice_range key 1 (length key - 1)) ≡ None → ¬ IsString key name
-  key_other unlike plain named =
-      let i = inside_of key s in
-      let is = inside_is key i.inside i.spelled in
-      unlike (is ∙ sym (one_meaning key name i.inside named (plain_string key i.inside s.is.utf8 i.spelled (all_plain i.inside (ap first_other (sym is) ∙ plain)))))
 
 -- ---- the last member
 

@@ -1,6 +1,7 @@
 pub mod AnswerLemmas
 pub mod FieldLemmas
+pub mod KeepsLemmas
 pub mod Keys
 pub mod OnlyLemmas
 pub mod PartLemmas
-pub mod WithoutLemmas
+pub mod PlaceLemmas

@@ -1,18 +1,14 @@
 -- An object has one text, number or value in a member: what was found is all there is.
-use Rattle.std.proofs.Common.{◌≡◌, ℕ, List, Option, None, Some, refl, sym, ◌∙◌, ap, subst}
+use Rattle.std.proofs.Common.{◌≡◌, ℕ, List, Option, None, Some, sym, ◌∙◌, ap, subst}
 use Rattle.json_scalar.specs.Text.{IsString}
 use Rattle.json_scalar.proofs.Contents.{one_meaning}
 use Rattle.json_scalar.proofs.Values.{one_whole}
 use Rattle.json_span.specs.Members.{AreMembers}
-use Rattle.json_span.specs.Elements.{AreElements}
-use Rattle.json_span.specs.Machine.{read_whole}
 use Rattle.json_span.specs.declared.Member.{Member}
-use Rattle.json_span.specs.declared.Span.{Span}
-use Rattle.json_span.specs.declared.phase.Frame.TheVariants as frame
 use Rattle.json_span.proofs.Theorems.{sound}
-use Rattle.json_fields.specs.Answer.{IsAnswer, IsOnly}
+use Rattle.json_fields.specs.Answer.{IsOnly}
 use Rattle.json_fields.specs.Fields.{HasField, HasOptional, HasText, HasOptionalText, IsOptionalText, Holds, present, line_depth}
-use Rattle.json_fields.specs.Parts.{IsCount, HasCount, IsOptionalCount, HasOptionalCount, HasObject, HasArray, HasOptionalNumber, Without}
+use Rattle.json_fields.specs.Parts.{IsCount, HasCount, IsOptionalCount, HasOptionalCount, HasObject, HasArray, HasOptionalNumber}
 use Rattle.json_fields.proofs.FieldLemmas.{Holds-only, Some-injective}
 use Rattle.json_fields.proofs.PartLemmas.{has_count}
 

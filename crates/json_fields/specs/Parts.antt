@@ -2,11 +2,12 @@
 -- absent.
 use Rattle.std.specs.Prelude.{◌≡◌, ◌⊎◌, ℕ, ◌<◌, ◌^◌, List, [], ◌∷◌, Option, None, Some, All}
 use Rattle.json_scalar.specs.Number.{IsWhole, Literal, literal_text}
-use Rattle.json_span.specs.Members.{AreMembers, IsSomeObject}
+use Rattle.json_scalar.specs.Text.{IsString}
+use Rattle.json_span.specs.Members.{AreMembers, IsSomeObject, text_at}
 use Rattle.json_span.specs.Elements.{AreElements, IsElementOf, IsSomeArray}
 use Rattle.json_span.specs.declared.Span.{Span}
 use Rattle.json_span.specs.declared.Member.{Member}
-use Rattle.json_fields.specs.Fields.{HasField, HasOptional, IsNamed, line_depth}
+use Rattle.json_fields.specs.Fields.{HasField, HasOptional, line_depth}
 
 -- a whole number below 2^63
 pub record IsCount (text : List ℕ) (count : ℕ) : Type 0 where
@@ -67,8 +68,13 @@ pub record IsCutList (text : List ℕ) (spans : List Span) : Type 0 where
   pub only : (others : List Span) → AreElements line_depth text others → others ≡ spans
   pub parts : All (IsElementOf text) spans
 
+-- the members whose keys are not left out, in order
+abbrev pub Keeps : (List ℕ → Type 0) → List ℕ → List Member → List Member → Type 0
+Keeps IsLeftOut text [] kept = kept ≡ []
+Keeps IsLeftOut text (member ∷ members) kept =
+    (others : List Member) × Keeps IsLeftOut text members others
+    × ((IsLeftOut (text_at text member.key) × (kept ≡ others)) ⊎ ((¬ IsLeftOut (text_at text member.key)) × (kept ≡ member ∷ others)))
+
 -- the members that do not have this name, in order
 abbrev pub Without : List ℕ → List ℕ → List Member → List Member → Type 0
-Without text name [] kept = kept ≡ []
-Without text name (member ∷ members) kept =
-    (others : List Member) × Without text name members others × ((IsNamed text name member × (kept ≡ others)) ⊎ ((¬ IsNamed text name member) × (kept ≡ member ∷ others)))
+Without text name = Keeps (λ key. IsString key name) text

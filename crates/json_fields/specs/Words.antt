@@ -1,10 +1,10 @@
 -- Names that stand for themselves between quotation marks, and texts in place.
-use Rattle.std.specs.Prelude.{◌≡◌, ℕ, ◌<◌, List, [], ◌∷◌, Bool, true, ◌&&◌, Option, None, Some, length, slice_get}
+use Rattle.std.specs.Prelude.{◌≡◌, ℕ, ◌+◌, ◌<◌, List, [], ◌∷◌, Bool, true, ◌&&◌, Option, None, Some, drop, length, slice_get}
 use Rattle.json_scalar.specs.Text.{IsString, is_plain}
 use Rattle.json_span.specs.Members.{text_at}
 use Rattle.json_span.specs.declared.Member.{Member}
 use Rattle.json_fields.specs.Answer.{IsOnly}
-use Rattle.json_fields.specs.Fields.{Holds}
+use Rattle.json_fields.specs.Fields.{Holds, IsNamed}
 use Rattle.json_fields.specs.declared.view.TextView.{TextView}
 use Rattle.json_fields.specs.declared.view.TextView.TheVariants as view
 
@@ -28,6 +28,8 @@ pub record IsPlace (text name : List ℕ) (members : List Member) (place : ℕ) 
   pub member : Member
   pub below : place < length members
   pub at : slice_get members place ≡ Some member
+  pub named : IsNamed text name member
+  pub last : Holds text name (drop (place + 1) members) None
   pub holds : IsOnly (Holds text name members) (Some (text_at text member.value))
 
 -- where the last member of this name stands, None where no member has it

@@ -1,5 +1,5 @@
 // Members by names that are words, in place.
-ghost use Rattle.std.specs.Prelude.{◌≡◌, ◌↔◌, IfOk, IfSome, IsTrue, All, option_map};
+ghost use Rattle.std.specs.Prelude.{◌≡◌, ◌↔◌, IfOk, IfSome, IsTrue, All, false, option_map};
 ghost use Rattle.std.specs.Option.{option_copied};
 ghost use Rattle.json_scalar.specs.Text.{IsString};
 ghost use Rattle.json_span.specs.Members.{IsMemberOf, IsValue};
@@ -9,23 +9,37 @@ ghost use Rattle.json_fields.specs.Parts.{HasCount, HasObject};
 ghost use Rattle.json_fields.specs.Words.{IsPlaceOf, IsSomeString, is_word, viewed};
 
 use crate::fields::is_null;
-use crate::view::{TextView, first_not_plain, string_view};
+use crate::view::{TextView, utf8_view};
 use basics::NoMemory;
 use json_span::{Member, is_object, is_string_of, whole_of};
 use std::alloc::Global;
 
-// Whether a key is that of a name. Most keys are known by their first byte, and the others are compared in place.
+// Whether a key may be that of a name, by the byte behind its quotation mark. Most keys of another name are known by it.
+#[inline(always)]
+fn may_be(key: &[u8], name: &[u8]) -> bool
+    ensures { result ≡ false → ¬ IsString key.now name.now }
+{
+    match key {
+        [_, byte, ..] => match name {
+            [first, ..] => *byte == *first || *byte == b'\\',
+            [] => true,
+        },
+        _ => true,
+    }
+}
+
+// Whether a key is that of a name. It is compared in place.
+#[inline(always)]
 fn is_key(alloc: Global, key: &[u8], name: &str) -> Result<bool, NoMemory>
     requires key { IsSomeString key.now }
     requires word { IsTrue (is_word name.now) }
     ensures { IfOk result (λ is. IsTrue is ↔ IsString key.now name.now) }
 {
-    let inside = &key[1..key.len() - 1];
-    if inside == name.as_bytes() {
-        return Ok(true);
-    }
-    if first_not_plain(inside).is_none() {
+    if !may_be(key, name.as_bytes()) {
         return Ok(false);
+    }
+    if &key[1..key.len() - 1] == name.as_bytes() {
+        return Ok(true);
     }
     is_string_of(alloc, key, name)
 }
@@ -89,6 +103,25 @@ pub fn field_in<'a>(
     member_of(alloc, text, members, name)
 }
 
+// What the optional member of this name holds; `null` counts as absent.
+fn optional_value<'a>(
+    alloc: Global,
+    text: &'a [u8],
+    members: &[Member],
+    name: &str,
+) -> Result<Option<&'a [u8]>, NoMemory>
+    requires cut { IsCut text.now members.now }
+    requires word { IsTrue (is_word name.now) }
+    ensures optional { IfOk result (λ found. IsOnly (HasOptional text.now name.now) (option_copied found)) }
+    ensures value { IfOk result (λ found. IfSome found (λ held. IsValue held.now)) }
+{
+    match member_of(alloc, text, members, name)? {
+        Some(held) if is_null(held) => Ok(None),
+        Some(held) => Ok(Some(held)),
+        None => Ok(None),
+    }
+}
+
 /// What the optional member of this name holds; `null` counts as absent.
 pub fn optional_in<'a>(
     alloc: Global,
@@ -100,11 +133,7 @@ pub fn optional_in<'a>(
     requires word { IsTrue (is_word name.now) }
     ensures { IfOk result (λ found. IsOnly (HasOptional text.now name.now) (option_copied found)) }
 {
-    match member_of(alloc, text, members, name)? {
-        Some(held) if is_null(held) => Ok(None),
-        Some(held) => Ok(Some(held)),
-        None => Ok(None),
-    }
+    optional_value(alloc, text, members, name)
 }
 
 /// A member that is an object.
@@ -154,7 +183,7 @@ pub fn text_in<'a>(
     ensures { IfOk result (λ found. IsAnswer (HasText text.now name.now) (option_map viewed found)) }
 {
     match field_in(alloc, text, members, name)? {
-        Some(held) => string_view(alloc, held),
+        Some(held) => utf8_view(alloc, held),
         None => Ok(None),
     }
 }
@@ -170,8 +199,8 @@ pub fn optional_text_in<'a>(
     requires word { IsTrue (is_word name.now) }
     ensures { IfOk result (λ found. IsAnswer (HasOptionalText text.now name.now) (option_map (option_map viewed) found)) }
 {
-    match optional_in(alloc, text, members, name)? {
-        Some(held) => match string_view(alloc, held)? {
+    match optional_value(alloc, text, members, name)? {
+        Some(held) => match utf8_view(alloc, held)? {
             Some(view) => Ok(Some(Some(view))),
             None => Ok(None),
         },

@@ -1,5 +1,5 @@
 // Texts in place.
-ghost use Rattle.std.specs.Prelude.{◌≡◌, IfOk, IfSome, MatchOption, ℕ, List, ◌≢◌, not, option_map};
+ghost use Rattle.std.specs.Prelude.{◌≡◌, IsUtf8, IfOk, IfSome, MatchOption, ℕ, List, ◌≢◌, not, option_map};
 ghost use Rattle.std.specs.List.{find};
 ghost use Rattle.json_scalar.specs.Text.{IsString, is_plain as plain_test};
 ghost use Rattle.json_scalar.specs.Quotes.{in_quotes};
@@ -47,7 +47,7 @@ fn is_plain(byte: u8) -> bool
 }
 
 // The first byte that does not stand for itself in a string.
-pub fn first_not_plain(bytes: &[u8]) -> Option<u8>
+fn first_not_plain(bytes: &[u8]) -> Option<u8>
     ensures { result ≡ find (λ byte. not (plain_test byte)) bytes.now }
 {
     bytes.iter().copied().find(|byte| !is_plain(*byte))
@@ -62,11 +62,11 @@ fn between_quotes(string: &str) -> Option<&str>
 
 // What a string without escapes stands for, where it is one.
 fn plain_inside(text: &[u8]) -> Option<&str>
+    requires { IsUtf8 text.now }
     ensures { IfSome result (λ inside. IsString text.now inside.now) }
 {
-    let Ok(string) = simdutf8::compat::from_utf8(text) else {
-        return None;
-    };
+    // The caller knows that it is UTF-8: the whole line was looked at once.
+    let string = unsafe { std::str::from_utf8_unchecked(text) };
     let Some(inside) = between_quotes(string) else {
         return None;
     };
@@ -76,15 +76,33 @@ fn plain_inside(text: &[u8]) -> Option<&str>
     }
 }
 
-/// What a text stands for as a JSON string, in place where it has no escapes; `None` where it is no string.
-pub fn string_view(alloc: Global, text: &[u8]) -> Result<Option<TextView<'_>>, NoMemory>
+// What a text stands for as a JSON string, decoded.
+fn decoded_view(alloc: Global, text: &[u8]) -> Result<Option<TextView<'_>>, NoMemory>
+    ensures { IfOk result (λ found. IsAnswer (IsString text.now) (option_map viewed found)) }
+{
+    match text_of(alloc, text)? {
+        Some(name) => Ok(Some(TextView::Decoded(name))),
+        None => Ok(None),
+    }
+}
+
+/// What a text in UTF-8 stands for as a JSON string, in place where it has no escapes; `None` where it is no string.
+pub fn utf8_view(alloc: Global, text: &[u8]) -> Result<Option<TextView<'_>>, NoMemory>
+    requires { IsUtf8 text.now }
     ensures { IfOk result (λ found. IsAnswer (IsString text.now) (option_map viewed found)) }
 {
     if let Some(inside) = plain_inside(text) {
         return Ok(Some(TextView::Plain(inside)));
     }
-    match text_of(alloc, text)? {
-        Some(name) => Ok(Some(TextView::Decoded(name))),
-        None => Ok(None),
+    decoded_view(alloc, text)
+}
+
+/// What a text stands for as a JSON string, in place where it has no escapes; `None` where it is no string.
+pub fn string_view(alloc: Global, text: &[u8]) -> Result<Option<TextView<'_>>, NoMemory>
+    ensures { IfOk result (λ found. IsAnswer (IsString text.now) (option_map viewed found)) }
+{
+    if simdutf8::is_utf8(text) {
+        return utf8_view(alloc, text);
     }
+    decoded_view(alloc, text)
 }

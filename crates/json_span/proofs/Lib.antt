@@ -19,4 +19,5 @@ pub mod Spelling
 pub mod Steps
 pub mod Strings
 pub mod Theorems
+mod Turns
 pub mod Wants

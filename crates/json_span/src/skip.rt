@@ -26,6 +26,30 @@ pub fn skip(text: &[u8], from: usize, run: Run) -> usize
     }
 }
 
+/// The same, where the run is mostly white space.
+#[inline(always)]
+pub fn skip_blanks_or_none(text: &[u8], from: usize, run: Run) -> usize
+    requires { from ≤ length text.now }
+    ensures range { (from ≤ result) × (result ≤ length text.now) }
+    ensures skipped { IsSkipped run (between text.now from result) }
+{
+    match run {
+        Run::Blanks => skip_blanks(text, from),
+        Run::Nothing => from,
+        _ => skip_any(text, from, run),
+    }
+}
+
+/// The same, out of line.
+#[inline(never)]
+fn skip_any(text: &[u8], from: usize, run: Run) -> usize
+    requires { from ≤ length text.now }
+    ensures range { (from ≤ result) × (result ≤ length text.now) }
+    ensures skipped { IsSkipped run (between text.now from result) }
+{
+    skip(text, from, run)
+}
+
 /// The place of the first byte that does not stand for itself in a string.
 #[inline(always)]
 fn skip_plain(text: &[u8], from: usize) -> usize

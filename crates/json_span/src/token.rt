@@ -2,13 +2,13 @@
 // does not go on as it mostly does, what stands here is read byte by byte.
 use crate::machine::Machine;
 use crate::phase::{Frame, Letter, Part, Phase, Role, Spot, is_over, run_at};
-use crate::skip::skip;
+use crate::skip::{skip, skip_blanks_or_none};
 use crate::table::Move;
 use basics::NoMemory;
 
 #[tactic(auto, using(crate::proofs::Run::read_on, crate::proofs::Run::read_none))]
 impl Machine {
-    ghost use Rattle.std.specs.Prelude.{◌≡◌, ◌⊎◌, ◌+◌, ◌<◌, ◌≤◌, IfOk, OnOk, length, slice_index};
+    ghost use Rattle.std.specs.Prelude.{◌≡◌, ◌⊎◌, ◌+◌, ◌<◌, ◌≤◌, IfOk, OnOk, IsTrue, length, slice_index};
     ghost use Rattle.json_span.specs.Table.{move_of, class_of, after_move};
     ghost use Rattle.json_span.specs.Machine.{IsTaken, IsSimple, IsEnding, initial, made, read_to};
     ghost use Rattle.json_span.specs.declared.phase.Frame.TheVariants as frame;
@@ -44,6 +44,33 @@ impl Machine {
         Ok(skip(text, at + 1, run_at(self.phase)))
     }
 
+    /// Makes the move that the byte here is known to make.
+    #[inline(always)]
+    fn make_one(&mut self, text: &[u8], at: usize, next: Move) -> Result<(), NoMemory>
+        requires place { at < length text.now }
+        requires simple { IsSimple next }
+        requires known { move_of self.old.phase (slice_index text.now at) ≡ next }
+        ensures taken { OnOk result (IsTaken text.now self.old at self.new (at + 1)) }
+        ensures made { OnOk result (self.new ≡ made next self.old at (at + 1)) }
+    {
+        self.make(next, at as u64)?;
+        Ok(())
+    }
+
+    /// Makes the move that the byte here is known to make, where mostly white space may stand behind it.
+    #[inline(always)]
+    fn make_short(&mut self, text: &[u8], at: usize, next: Move) -> Result<usize, NoMemory>
+        requires place { at < length text.now }
+        requires simple { IsSimple next }
+        requires known { move_of self.old.phase (slice_index text.now at) ≡ next }
+        ensures taken { IfOk result (IsTaken text.now self.old at self.new) }
+        ensures further { IfOk result (λ to. (at < to) × (to ≤ length text.now)) }
+        ensures made { OnOk result (self.new ≡ made next self.old at (at + 1)) }
+    {
+        self.make(next, at as u64)?;
+        Ok(skip_blanks_or_none(text, at + 1, run_at(self.phase)))
+    }
+
     /// Reads a string to its end, or up to an escape.
     #[inline(always)]
     fn take_string(&mut self, text: &[u8], at: usize) -> Result<usize, NoMemory>
@@ -72,7 +99,7 @@ impl Machine {
         }
         if text[at] == b'"' {
             return match role {
-                Role::Key => self.take_colon(text, at),
+                Role::Key => self.end_key(text, at),
                 Role::Value => self.make_at(text, at, Move::End),
             };
         }
@@ -111,7 +138,7 @@ impl Machine {
     {
         self.cutter.end_value(&self.frames, at as u64)?;
         self.make(next, at as u64)?;
-        Ok(skip(text, at + 1, run_at(self.phase)))
+        Ok(skip_blanks_or_none(text, at + 1, run_at(self.phase)))
     }
 
     /// Reads the end of a number, where a comma or a bracket stands.
@@ -331,6 +358,27 @@ impl Machine {
         self.make_at(text, last, Move::End)
     }
 
+    /// Reads a value that is no string, or the front of one.
+    #[inline(never)]
+    fn take_plain(&mut self, text: &[u8], at: usize) -> Result<usize, NoMemory>
+        requires place { at < length text.now }
+        requires phase { (self.old.phase ≡ phase.Value) ⊎ (self.old.phase ≡ phase.FirstItem) }
+        ensures taken { IfOk result (IsTaken text.now self.old at self.new) }
+        ensures further { IfOk result (λ to. (at < to) × (to ≤ length text.now)) }
+    {
+        match text[at] {
+            b'1'..=b'9' => self.take_number(text, at),
+            b'{' => self.make_short(text, at, Move::Open(Frame::Object)),
+            b'[' => self.make_short(text, at, Move::Open(Frame::Array)),
+            b't' => self.take_true(text, at),
+            b'f' => self.take_false(text, at),
+            b'n' => self.take_null(text, at),
+            b'0' => self.take_zero(text, at),
+            b'-' => self.take_minus(text, at),
+            _ => self.advance(text, at),
+        }
+    }
+
     /// Reads a value, or the front of one.
     #[inline(always)]
     fn take_value(&mut self, text: &[u8], at: usize) -> Result<usize, NoMemory>
@@ -339,18 +387,30 @@ impl Machine {
         ensures taken { IfOk result (IsTaken text.now self.old at self.new) }
         ensures further { IfOk result (λ to. (at < to) × (to ≤ length text.now)) }
     {
-        match text[at] {
-            b'"' => self.take_string(text, at),
-            b'1'..=b'9' => self.take_number(text, at),
-            b'{' => self.make_at(text, at, Move::Open(Frame::Object)),
-            b'[' => self.make_at(text, at, Move::Open(Frame::Array)),
-            b't' => self.take_true(text, at),
-            b'f' => self.take_false(text, at),
-            b'n' => self.take_null(text, at),
-            b'0' => self.take_zero(text, at),
-            b'-' => self.take_minus(text, at),
-            _ => self.advance(text, at),
+        if text[at] == b'"' {
+            return self.take_string(text, at);
         }
+        self.take_plain(text, at)
+    }
+
+    /// Reads the end of a key, the colon right behind it and the value right behind that, or as much of the value as
+    /// stands here. An object is left to be read.
+    #[inline(always)]
+    fn take_near(&mut self, text: &[u8], at: usize) -> Result<usize, NoMemory>
+        requires place { at + 2 < length text.now }
+        requires ends { move_of self.old.phase (slice_index text.now at) ≡ moves.EndKey }
+        requires colon { slice_index text.now (at + 1) ≡ 58 }
+        ensures taken { IfOk result (IsTaken text.now self.old at self.new) }
+        ensures further { IfOk result (λ to. (at < to) × (to ≤ length text.now)) }
+    {
+        self.make_one(text, at, Move::EndKey)?;
+        let colon = at + 1;
+        self.make_one(text, colon, Move::Go(Phase::Value))?;
+        let value = colon + 1;
+        if text[value] == b'{' {
+            return Ok(value);
+        }
+        self.take_value(text, value)
     }
 
     /// Reads a key, its colon and its value, or as much of them as stands here.
@@ -365,7 +425,11 @@ impl Machine {
         if end == text.len() || text[end] != b'"' {
             return Ok(end);
         }
-        self.take_colon(text, end)
+        // Mostly no white space stands around the colon.
+        if text.len() - end > 2 && text[end + 1] == b':' && text[end + 2] > b' ' {
+            return self.take_near(text, end);
+        }
+        self.end_key(text, end)
     }
 
     /// Reads the end of a key, its colon and its value, or as much of them as stands here. An object or an array is
@@ -388,6 +452,28 @@ impl Machine {
         self.take_value(text, value)
     }
 
+    /// The same, out of line.
+    #[inline(never)]
+    fn end_key(&mut self, text: &[u8], at: usize) -> Result<usize, NoMemory>
+        requires place { at < length text.now }
+        requires ends { move_of self.old.phase (slice_index text.now at) ≡ moves.EndKey }
+        ensures taken { IfOk result (IsTaken text.now self.old at self.new) }
+        ensures further { IfOk result (λ to. (at < to) × (to ≤ length text.now)) }
+    {
+        self.take_colon(text, at)
+    }
+
+    /// Reads a value that is no member's, or the front of one.
+    #[inline(never)]
+    fn take_item(&mut self, text: &[u8], at: usize) -> Result<usize, NoMemory>
+        requires place { at < length text.now }
+        requires phase { (self.old.phase ≡ phase.Value) ⊎ (self.old.phase ≡ phase.FirstItem) }
+        ensures taken { IfOk result (IsTaken text.now self.old at self.new) }
+        ensures further { IfOk result (λ to. (at < to) × (to ≤ length text.now)) }
+    {
+        self.take_value(text, at)
+    }
+
     /// Reads what stands behind a value.
     #[inline(always)]
     fn take_behind(&mut self, text: &[u8], at: usize) -> Result<usize, NoMemory>
@@ -397,9 +483,9 @@ impl Machine {
         ensures further { IfOk result (λ to. (at < to) × (to ≤ length text.now)) }
     {
         match text[at] {
-            b',' => self.make_at(text, at, Move::Comma),
-            b'}' => self.make_at(text, at, Move::Close(Frame::Object)),
-            b']' => self.make_at(text, at, Move::Close(Frame::Array)),
+            b',' => self.make_short(text, at, Move::Comma),
+            b'}' => self.make_short(text, at, Move::Close(Frame::Object)),
+            b']' => self.make_short(text, at, Move::Close(Frame::Array)),
             _ => self.advance(text, at),
         }
     }
@@ -417,9 +503,40 @@ impl Machine {
             return Ok(behind);
         }
         match self.phase {
-            Phase::After => self.make_at(text, behind, Move::Comma),
+            Phase::After => self.make_short(text, behind, Move::Comma),
             _ => Ok(behind),
         }
+    }
+
+    /// Whether a key behind a comma begins here.
+    #[inline(always)]
+    fn is_at_key(&self, text: &[u8], at: usize) -> bool
+        ensures { IsTrue result → (at < length text.now) × (move_of self.now.phase (slice_index text.now at) ≡ moves.BeginKey) }
+    {
+        if at >= text.len() || text[at] != b'"' {
+            return false;
+        }
+        match self.phase {
+            Phase::Key => true,
+            _ => false,
+        }
+    }
+
+    /// Reads members up to one whose value is an array or an object, or as much of them as stands here.
+    #[inline(never)]
+    fn take_members(&mut self, text: &[u8], at: usize) -> Result<usize, NoMemory>
+        requires place { at < length text.now }
+        requires begins { move_of self.old.phase (slice_index text.now at) ≡ moves.BeginKey }
+        ensures taken { IfOk result (IsTaken text.now self.old at self.new) }
+        ensures further { IfOk result (λ to. (at < to) × (to ≤ length text.now)) }
+    {
+        let mut place = at;
+        let mut is_more = true;
+        while is_more {
+            place = self.take_member(text, place)?;
+            is_more = self.is_at_key(text, place);
+        }
+        Ok(place)
     }
 
     /// Reads the next token, or a part of it: at least one byte.
@@ -430,15 +547,18 @@ impl Machine {
         ensures further { IfOk result (λ to. (at < to) × (to ≤ length text.now)) }
     {
         match self.phase {
-            Phase::FirstKey if text[at] == b'"' => self.take_member(text, at),
-            Phase::Key if text[at] == b'"' => self.take_member(text, at),
-            Phase::Value => self.take_value(text, at),
+            Phase::FirstKey if text[at] == b'"' => self.take_members(text, at),
+            Phase::Key if text[at] == b'"' => self.take_members(text, at),
+            Phase::Value => self.take_item(text, at),
             Phase::After => self.take_behind(text, at),
             Phase::FirstItem if text[at] == b']' => {
-                self.make_at(text, at, Move::Close(Frame::Array))
+                self.make_short(text, at, Move::Close(Frame::Array))
             }
-            Phase::FirstItem => self.take_value(text, at),
+            Phase::FirstItem => self.take_item(text, at),
             Phase::Text(role, Spot::Plain) => self.take_more(text, at, role),
+            Phase::Start(Frame::Object) if text[at] == b'{' => {
+                self.make_short(text, at, Move::Open(Frame::Object))
+            }
             _ => self.advance(text, at),
         }
     }

@@ -70,7 +70,7 @@ is_done phase.Done = inl tt
 is_done _ = inr (λ done. done)
 
 -- the machine has found each array's depth
-array_deep : (text : List ℕ) (deep : ℕ) (spans : List Span) → IsArray text deep spans → deep ≡ (read_whole frame.Array text).deepest
+pub array_deep : (text : List ℕ) (deep : ℕ) (spans : List Span) → IsArray text deep spans → deep ≡ (read_whole frame.Array text).deepest
 array_deep text deep spans o = go (is_done m.phase)
   where
     m : Machine

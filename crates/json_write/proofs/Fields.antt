@@ -39,11 +39,11 @@ pub optional_written : (limit : ℕ) (name : List ℕ) (value : Option (List ℕ
 optional_written limit name None parts ascii value s = s
 optional_written limit name (Some text) parts ascii value s = (word_part limit name text ascii value, s)
 
-are_named : (limit : ℕ) (parts : List Part) → AreWritten limit parts → AreNamed parts
+pub are_named : (limit : ℕ) (parts : List Part) → AreWritten limit parts → AreNamed parts
 are_named limit [] s = tt
 are_named limit (part ∷ parts) s = (s.0.name, are_named limit parts s.1)
 
-are_sound : (limit : ℕ) (parts : List Part) → AreWritten limit parts → AreSound limit parts
+pub are_sound : (limit : ℕ) (parts : List Part) → AreWritten limit parts → AreSound limit parts
 are_sound limit [] s = tt
 are_sound limit (part ∷ parts) s =
     let n = s.0.name in

@@ -2,6 +2,7 @@ pub mod Depths
 pub mod Fields
 pub mod Fronts
 pub mod HeldValues
+pub mod KeptParts
 pub mod Lists
 pub mod Meanings
 pub mod Names

@@ -1,13 +1,18 @@
 -- An array that is written from elements, as a tree of the grammar, and where its elements stand.
-use Rattle.std.proofs.Common.{◌≡◌, ℕ, ◌+◌, ◌≤◌, List, [], ◌∷◌, ◌++◌, length, map, IsUtf8, refl, sym, ap, ◌∙◌, arith, append_assoc, append-nil, length-append}
+use Rattle.std.proofs.Common.{◌≡◌, ℕ, ◌+◌, ◌≤◌, List, [], ◌∷◌, ◌++◌, length, map, IsUtf8, refl, sym, ap, ◌∙◌, subst, arith, append_assoc, append-nil, length-append}
 use Rattle.std.proofs.lemmas.Str.{IsUtf8-append, IsUtf8-nil}
 use Rattle.json_span.specs.Grammar as json
 use Rattle.json_span.specs.Grammar.{Value, Items, value_text, items_text as tree_text, depth, items_depth, space_text}
 use Rattle.json_span.specs.Members.{text_at}
-use Rattle.json_span.specs.Elements.{IsArray, element_at, element_end, elements_from, elements_of}
+use Rattle.json_span.specs.Elements.{AreElements, HasOnlyElements, IsArray, element_at, element_end, elements_from, elements_of}
+use Rattle.json_span.specs.Machine.{read_whole}
+use Rattle.json_span.specs.declared.Span.{Span}
+use Rattle.json_span.specs.declared.phase.Frame.TheVariants as frame
+use Rattle.json_span.proofs.ArrayTheorems.{finds_only_array}
 use Rattle.json_span.proofs.Parts.{part_at as cut_at}
 use Rattle.json_write.specs.Objects.{items_text, list_text}
 use Rattle.json_write.specs.Laws.{AreWithin, IsListOf}
+use Rattle.json_write.proofs.Depths.{array_deep}
 use Rattle.json_write.proofs.Strings.{utf8_before}
 
 -- ---- the tree
@@ -84,6 +89,14 @@ module _ (limit : ℕ) (text : List ℕ) where
 
 -- ---- the array
 
+-- an array has one depth and one list of elements
+only_elements : (limit : ℕ) (text : List ℕ) (spans : List Span) → AreElements limit text spans → HasOnlyElements limit text spans
+only_elements limit text spans of deep others o =
+    let a = array_deep text of.deep spans of.array in
+    let b = array_deep text deep others o in
+    let only = finds_only_array text (read_whole frame.Array text) refl (read_whole frame.Array text).deepest (omega arith) in
+    (subst (λ (n : ℕ). n ≤ limit) (a ∙ sym b) of.within, (only deep others o).1 ∙ sym (only of.deep spans of.array).1)
+
 module _ (limit : ℕ) (item : List ℕ) (items : List (List ℕ)) (s : AreWithin limit (item ∷ items)) where
   whole : Value
   whole = json.array [] s.0.is.value [] (tree limit items s.1)
@@ -123,26 +136,34 @@ module _ (limit : ℕ) (item : List ℕ) (items : List (List ℕ)) (s : AreWithi
       let more = cut_tree limit text items s.1 (before_next text [] 91 item rest 0 refl refl) (element_end start v []) (next_place text [] 91 item rest 0 refl refl start place v w) (next_split text [] 91 item rest 0 refl refl) in
       λ i. here i ∷ more i
 
+  whole_are : AreElements (limit + 1) (list_text (item ∷ items)) (elements_of 0 whole)
+  whole_are = record { deep = depth whole; within = whole_within; array = whole_array }
+
   whole_is : IsListOf (limit + 1) (list_text (item ∷ items)) (item ∷ items)
   whole_is = record {
     value = record { is = record { utf8 = whole_utf8; value = whole; spelled = whole_spelled }; within = whole_within };
     spans = elements_of 0 whole;
-    are = record { deep = depth whole; within = whole_within; array = whole_array };
+    are = whole_are;
+    only = only_elements (limit + 1) (list_text (item ∷ items)) (elements_of 0 whole) whole_are;
     cut = whole_items;
   }
 
 empty_utf8 : IsUtf8 (list_text [])
 empty_utf8 = utf8_before 91 (93 ∷ []) refl (utf8_before 93 [] refl IsUtf8-nil)
 
+empty_are : (limit : ℕ) → AreElements (limit + 1) (list_text []) []
+empty_are limit = record {
+  deep = 1;
+  within = omega arith;
+  array = record { before = []; value = json.empty_array []; after = []; spells = record { utf8 = empty_utf8; array = tt; spelled = refl }; deepest = refl; places = refl };
+}
+
 pub list_of : (limit : ℕ) (items : List (List ℕ)) → AreWithin limit items → IsListOf (limit + 1) (list_text items) items
 list_of limit [] s = record {
   value = record { is = record { utf8 = empty_utf8; value = json.empty_array []; spelled = refl }; within = omega arith };
   spans = [];
-  are = record {
-    deep = 1;
-    within = omega arith;
-    array = record { before = []; value = json.empty_array []; after = []; spells = record { utf8 = empty_utf8; array = tt; spelled = refl }; deepest = refl; places = refl };
-  };
+  are = empty_are limit;
+  only = only_elements (limit + 1) (list_text []) [] (empty_are limit);
   cut = refl;
 }
 list_of limit (item ∷ items) s = whole_is limit item items s

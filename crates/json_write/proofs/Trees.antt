@@ -1,11 +1,13 @@
 -- An object that is written from members, as a tree of the grammar, and where its members stand.
-use Rattle.std.proofs.Common.{◌≡◌, ℕ, ◌+◌, ◌≤◌, List, [], ◌∷◌, ◌++◌, length, map, IsUtf8, refl, sym, ap, ◌∙◌, arith, append_assoc, append-nil, length-append}
+use Rattle.std.proofs.Common.{◌≡◌, ℕ, ◌+◌, ◌≤◌, List, [], ◌∷◌, ◌++◌, length, map, IsUtf8, refl, sym, ap, ◌∙◌, subst, arith, append_assoc, append-nil, length-append}
 use Rattle.std.proofs.lemmas.Str.{IsUtf8-append, IsUtf8-nil}
 use Rattle.json_scalar.specs.Text.{Piece, string_text}
 use Rattle.json_span.specs.Grammar as json
 use Rattle.json_span.specs.Grammar.{Space, Value, Members, value_text, members_text, depth, members_depth, space_text, member_at, member_end, members_from}
-use Rattle.json_span.specs.Members.{IsObject, members_of, text_at}
+use Rattle.json_span.specs.Members.{AreMembers, HasOnlyMembers, IsObject, members_of, text_at}
+use Rattle.json_span.specs.declared.Member.{Member}
 use Rattle.json_span.proofs.Parts.{part_at as cut_at}
+use Rattle.json_span.proofs.Theorems.{sound}
 use Rattle.json_write.specs.Objects.{Part, part_before, parts_text, object_text}
 use Rattle.json_write.specs.Laws.{IsSound, AreSound, IsObjectOf, part_at}
 use Rattle.json_write.proofs.Strings.{utf8_before}
@@ -137,6 +139,13 @@ module _ (limit : ℕ) (text : List ℕ) where
 
 -- ---- the object
 
+-- an object has one depth and one list of members
+only_members : (limit : ℕ) (text : List ℕ) (members : List Member) → AreMembers limit text members → HasOnlyMembers limit text members
+only_members limit text members of deep others o =
+    let a = sound text of.deep members of.object in
+    let b = sound text deep others o in
+    (subst (λ (n : ℕ). n ≤ limit) (sym a.deepest ∙ b.deepest) of.within, sym b.places ∙ a.places)
+
 module _ (limit : ℕ) (part : Part) (parts : List Part) (s : AreSound limit (part ∷ parts)) where
   whole : Value
   whole = json.object [] (key_of limit part s.0) [] [] (tree_of limit part s.0) [] (tree limit parts s.1)
@@ -178,26 +187,34 @@ module _ (limit : ℕ) (part : Part) (parts : List Part) (s : AreSound limit (pa
       let more = cut_tree limit text parts s.1 (before_next text [] 123 part rest 0 refl refl) (member_end start key [] [] v []) (next_place text [] 123 part rest 0 refl refl start place key v k w) (next_split text [] 123 part rest 0 refl refl) in
       λ i. here i ∷ more i
 
+  whole_are : AreMembers (limit + 1) (object_text (part ∷ parts)) (members_of 0 whole)
+  whole_are = record { deep = depth whole; within = whole_within; object = whole_object }
+
   whole_is : IsObjectOf (limit + 1) (object_text (part ∷ parts)) (part ∷ parts)
   whole_is = record {
     value = record { is = record { utf8 = whole_utf8; value = whole; spelled = whole_spelled }; within = whole_within };
     members = members_of 0 whole;
-    are = record { deep = depth whole; within = whole_within; object = whole_object };
+    are = whole_are;
+    only = only_members (limit + 1) (object_text (part ∷ parts)) (members_of 0 whole) whole_are;
     cut = whole_parts;
   }
 
 empty_utf8 : IsUtf8 (object_text [])
 empty_utf8 = utf8_before 123 (125 ∷ []) refl (utf8_before 125 [] refl IsUtf8-nil)
 
+empty_are : (limit : ℕ) → AreMembers (limit + 1) (object_text []) []
+empty_are limit = record {
+  deep = 1;
+  within = omega arith;
+  object = record { before = []; value = json.empty_object []; after = []; spells = record { utf8 = empty_utf8; object = tt; spelled = refl }; deepest = refl; places = refl };
+}
+
 pub object_of : (limit : ℕ) (parts : List Part) → AreSound limit parts → IsObjectOf (limit + 1) (object_text parts) parts
 object_of limit [] s = record {
   value = record { is = record { utf8 = empty_utf8; value = json.empty_object []; spelled = refl }; within = omega arith };
   members = [];
-  are = record {
-    deep = 1;
-    within = omega arith;
-    object = record { before = []; value = json.empty_object []; after = []; spells = record { utf8 = empty_utf8; object = tt; spelled = refl }; deepest = refl; places = refl };
-  };
+  are = empty_are limit;
+  only = only_members (limit + 1) (object_text []) [] (empty_are limit);
   cut = refl;
 }
 object_of limit (part ∷ parts) s = whole_is limit part parts s

@@ -3,8 +3,8 @@ use Rattle.std.specs.Prelude.{◌≡◌, ℕ, ◌+◌, ◌<◌, ◌^◌, List, [
 use Rattle.json.specs.Print.{quoted}
 use Rattle.json_scalar.specs.Text.{IsString}
 use Rattle.json_scalar.specs.Number.{IsWhole}
-use Rattle.json_span.specs.Members.{AreMembers, text_at}
-use Rattle.json_span.specs.Elements.{AreElements}
+use Rattle.json_span.specs.Members.{AreMembers, HasOnlyMembers, text_at}
+use Rattle.json_span.specs.Elements.{AreElements, HasOnlyElements}
 use Rattle.json_span.specs.declared.Member.{Member}
 use Rattle.json_span.specs.declared.Span.{Span}
 use Rattle.json_fields.specs.Fields.{HasField, Holds}
@@ -41,11 +41,12 @@ AreSound limit (part ∷ parts) = IsSound limit part × AreSound limit parts
 abbrev pub part_at : List ℕ → Member → Part
 part_at text member = (text_at text member.key, text_at text member.value)
 
--- the text is an object of exactly these members
+-- the text is an object of exactly these members, whichever way it is read
 pub record IsObjectOf (limit : ℕ) (text : List ℕ) (parts : List Part) : Type 0 where
   pub value : IsValueWithin limit text
   pub members : List Member
   pub are : AreMembers limit text members
+  pub only : HasOnlyMembers limit text members
   pub cut : map (part_at text) members ≡ parts
 
 -- An object that is written nests one deeper than its members, and has these members and no others.
@@ -86,11 +87,12 @@ abbrev pub AreWithin : ℕ → List (List ℕ) → Type 0
 AreWithin limit [] = Unit {0}
 AreWithin limit (item ∷ items) = IsValueWithin limit item × AreWithin limit items
 
--- the text is an array of exactly these elements
+-- the text is an array of exactly these elements, whichever way it is read
 pub record IsListOf (limit : ℕ) (text : List ℕ) (items : List (List ℕ)) : Type 0 where
   pub value : IsValueWithin limit text
   pub spans : List Span
   pub are : AreElements limit text spans
+  pub only : HasOnlyElements limit text spans
   pub cut : map (text_at text) spans ≡ items
 
 -- An array that is written nests one deeper than its elements, and has these elements and no others.

@@ -111,7 +111,7 @@ trace_forms : (text : List ℕ) (content : TraceMsg) → IsValueWithin payload_d
 trace_forms text content w is =
     let object = is.typed.field.object in
     let nested = nests payload_depth text w (record { deep = object.deep; members = is.typed.field.members; object = object.object }) in
-    told_forms is.type text is.emitted_at content w nested is is.number.number is.is
+    told_forms is.type text is.emitted_at content w nested is is.number.number is.told
 
 payload_forms : (type : MessageType) (text : List ℕ) (content : Message) → IsValueWithin payload_depth text → IsPayload type text content → HasForms content
 payload_forms types.Rec text (message.Rec content) w is = record_forms text content w is
@@ -130,4 +130,4 @@ read_has_forms line content is =
     let object = field.object in
     let within : object.deep ≤ 127 = object.within in
     let held = holds_has (IsValueWithin payload_depth) line _ field.members is.payload (values_within payload_depth line object.deep field.members object.object (omega arith)) field.holds in
-    payload_forms is.type is.payload content held is.is
+    payload_forms is.type is.payload content held is.told

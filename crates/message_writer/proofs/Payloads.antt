@@ -326,7 +326,7 @@ trace_payload (trace.Error meaning failure emitted_at) h =
         typed = has_text payload_depth text parts r (codes "type") (trace_text type) (trace_utf8 type) f.type_is;
         emitted_at = emitted_at;
         number = has_optional_number payload_depth text parts r (codes "emitted_at") emitted_at h.number f.emitted_at_is;
-        is = (record { error = error; field = has_field payload_depth text parts r (codes "error") error f.value_is; message = e.is.message; failure = e.is.type }, refl);
+        told = (record { error = error; field = has_field payload_depth text parts r (codes "error") error f.value_is; message = e.is.message; failure = e.is.type }, refl);
       };
     }
 trace_payload (trace.Status id status emitted_at) h =
@@ -344,7 +344,7 @@ trace_payload (trace.Status id status emitted_at) h =
         typed = has_text payload_depth text parts r (codes "type") (trace_text type) (trace_utf8 type) f.type_is;
         emitted_at = emitted_at;
         number = has_optional_number payload_depth text parts r (codes "emitted_at") emitted_at h.number f.emitted_at_is;
-        is = (record { held = held; field = has_field payload_depth text parts r (codes "stream_status") held f.value_is; stream = s.is.stream; status = s.is.is }, refl);
+        told = (record { held = held; field = has_field payload_depth text parts r (codes "stream_status") held f.value_is; stream = s.is.stream; status = s.is.is }, refl);
       };
     }
 trace_payload (trace.Other object) h = record { value = nested_within payload_depth object h.value h.nests; is = h.trace }
@@ -385,7 +385,7 @@ line_is type payload content within is =
       typed = has_text line_depth text parts r (codes "type") (type_text type) t.utf8 t.type_is;
       payload = payload;
       field = has_field line_depth text parts r (payload_text type) payload t.payload_is;
-      is = is;
+      told = is;
     }
 
 pub written_is : (content : Message) → HasForms content → IsMessage (written content) content

@@ -1,6 +1,5 @@
 // What a line tells, but for traces.
 ghost use Rattle.std.specs.Prelude.{◌≡◌, ◌++◌, OnOk};
-ghost use Rattle.airbyte_message.specs.Words.{connection_text};
 ghost use Rattle.message_writer.specs.Written.{catalog_text, log_text, record_text, spec_text, status_object};
 
 use crate::parts::put_id;
@@ -46,7 +45,7 @@ pub fn put_spec(text: &mut Bytes, content: &SpecMsg) -> Result<(), NoMemory>
 pub fn put_connection(text: &mut Bytes, content: &ConnectionMsg) -> Result<(), NoMemory>
     ensures { OnOk result (text.new ≡ text.old ++ status_object content.now) }
 {
-    put_string_member(text, b'{', "status", status_text(content.succeeded))?;
+    put_string_member(text, b'{', "status", content.status())?;
     put_optional_string(text, "message", &content.text)?;
     text.push(b'}')?;
     Ok(())
@@ -59,11 +58,4 @@ pub fn put_catalog(text: &mut Bytes, content: &CatalogMsg) -> Result<(), NoMemor
     put_member(text, b'{', "streams", content.streams.as_slice())?;
     text.push(b'}')?;
     Ok(())
-}
-
-// The status of a connection in a message.
-fn status_text(succeeded: bool) -> &'static str
-    ensures { result.now ≡ connection_text succeeded }
-{
-    if succeeded { "SUCCEEDED" } else { "FAILED" }
 }

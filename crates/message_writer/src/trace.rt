@@ -1,13 +1,13 @@
 // What a TRACE line tells.
 ghost use Rattle.std.specs.Prelude.{◌≡◌, [], ◌∷◌, ◌++◌, List, ℕ, Option, OnOk, codes, option_map};
 ghost use Rattle.json.specs.Print.{quoted};
-ghost use Rattle.airbyte_message.specs.Words.{failure_text};
+ghost use Rattle.airbyte_message.specs.Words.{failure_text, trace_text};
 ghost use Rattle.json_write.specs.Objects.{more_text, named, optional, part_before};
 ghost use Rattle.message_writer.specs.Written.{error_text, stream_status_text, told_text, trace_object};
 ghost use Rattle.airbyte_message.specs.declared.trace_message.TraceType.TheVariants as types;
 
 use crate::parts::put_id;
-use airbyte_message::{FailureType, Raw, StreamStatus, TraceMsg};
+use airbyte_message::{FailureType, Raw, StreamStatus, TraceMsg, TraceType};
 use basics::{Bytes, Name, NoMemory, StreamId};
 use json_write::{put_key, put_optional_member, put_string_member};
 
@@ -51,10 +51,10 @@ fn put_status(text: &mut Bytes, id: &StreamId, status: StreamStatus) -> Result<(
 }
 
 // Puts the first members of a trace: its type, and when it was emitted where that is known.
-fn put_type(text: &mut Bytes, name: &str, emitted_at: &Option<Raw>) -> Result<(), NoMemory>
-    ensures { OnOk result (text.new ≡ text.old ++ (123 ∷ part_before (named (codes "type") (quoted name.now)) []) ++ more_text (optional (codes "emitted_at") emitted_at.now [])) }
+fn put_type(text: &mut Bytes, kind: TraceType, emitted_at: &Option<Raw>) -> Result<(), NoMemory>
+    ensures { OnOk result (text.new ≡ text.old ++ (123 ∷ part_before (named (codes "type") (quoted (trace_text kind))) []) ++ more_text (optional (codes "emitted_at") emitted_at.now [])) }
 {
-    put_string_member(text, b'{', "type", name)?;
+    put_string_member(text, b'{', "type", kind.text())?;
     put_optional_member(text, "emitted_at", emitted_at)
 }
 
@@ -67,7 +67,7 @@ fn put_error_trace(
 ) -> Result<(), NoMemory>
     ensures { OnOk result (text.new ≡ text.old ++ told_text types.Error emitted_at.now (codes "error") (error_text meaning.now failure.now)) }
 {
-    put_type(text, "ERROR", emitted_at)?;
+    put_type(text, TraceType::Error, emitted_at)?;
     put_key(text, b',', "error")?;
     put_error(text, meaning, failure)?;
     text.push(b'}')?;
@@ -83,7 +83,7 @@ fn put_status_trace(
 ) -> Result<(), NoMemory>
     ensures { OnOk result (text.new ≡ text.old ++ told_text types.StreamStatus emitted_at.now (codes "stream_status") (stream_status_text id.now status)) }
 {
-    put_type(text, "STREAM_STATUS", emitted_at)?;
+    put_type(text, TraceType::StreamStatus, emitted_at)?;
     put_key(text, b',', "stream_status")?;
     put_status(text, id, status)?;
     text.push(b'}')?;

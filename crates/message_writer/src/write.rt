@@ -35,7 +35,7 @@ fn kind_of(message: &Message) -> MessageType
 fn room_of(message: &Message) -> usize {
     let largest = match message {
         Message::Rec(content) => content.body.len(),
-        Message::State(content) => content.object.len(),
+        Message::State(content) => content.object().len(),
         Message::Spec(content) => content.specification.len(),
         Message::Catalog(content) => content.streams.len(),
         Message::Control(content) => content.object.len(),
@@ -57,7 +57,7 @@ fn put_payload(line: &mut Bytes, message: &Message) -> Result<(), NoMemory>
 {
     match message {
         Message::Rec(content) => put_record(line, content),
-        Message::State(content) => put_object(line, content.object.as_slice()),
+        Message::State(content) => put_object(line, content.object().as_slice()),
         Message::Log(content) => put_log(line, content),
         Message::Spec(content) => put_spec(line, content),
         Message::Connection(content) => put_connection(line, content),

@@ -1,4 +1,5 @@
 pub mod Event
+pub mod FaultCounts
 pub mod Desk
 pub mod Link
 pub mod Faults
@@ -8,6 +9,8 @@ pub mod Status
 pub mod Winners
 pub mod WinnerMap
 pub mod Tables
+pub mod Places
 pub mod Hand
 pub mod Dock
 pub mod ByteStreams
+pub mod Rows

@@ -2,6 +2,7 @@
 ghost use Rattle.std.specs.Prelude.{◌≡◌, ◌<◌, ◌≤◌, ◌^◌, ℕ, List, Option, length, take, IfOk, OnErr, IsErrOf};
 ghost use Rattle.basics.specs.Told.{RoseIf, told_more};
 ghost use Rattle.outside.specs.ByteStreams.{Reads, WriteFails};
+ghost use Rattle.outside.specs.FaultCounts.{StaysUnlessFailed};
 
 use crate::Fault;
 
@@ -20,7 +21,8 @@ pub trait Source {
         requires small { length room.old < 2 ^ 32 }
         ensures within { IfOk result (λ count. count ≤ length room.old) }
         ensures bytes { Reads result room.old room.new (left self.old) (left self.new) }
-        ensures faults { RoseIf (IsErrOf result Fault.Failed) (faults self.old) (faults self.new) };
+        ensures faults { RoseIf (IsErrOf result Fault.Failed) (faults self.old) (faults self.new) }
+        ensures stays { StaysUnlessFailed result (faults self.old) (faults self.new) };
 }
 
 /// Where bytes go.
@@ -37,5 +39,6 @@ pub trait Sink {
         ensures within { IfOk result (λ count. count ≤ length piece.now) }
         ensures taken { IfOk result (λ count. bytes self.new ≡ told_more (take count piece.now) (bytes self.old)) }
         ensures kept { OnErr result (bytes self.new ≡ bytes self.old) }
-        ensures faults { RoseIf (WriteFails result piece.now) (faults self.old) (faults self.new) };
+        ensures faults { RoseIf (WriteFails result piece.now) (faults self.old) (faults self.new) }
+        ensures stays { ¬ WriteFails result piece.now → faults self.new ≡ faults self.old };
 }

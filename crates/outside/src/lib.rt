@@ -11,8 +11,10 @@ mod line;
 mod link;
 mod load;
 mod no_link;
+mod row_store;
 mod status;
 mod std_desk;
+mod std_streams;
 mod table;
 mod winner_map;
 mod winners;
@@ -35,8 +37,10 @@ pub use line::{NumberedRow, NumberedRowList, SeqLine, SeqLineList, StreamIdList}
 pub use link::{Link, LinkCounts, LinkFace, Offered, PollKind, Polled};
 pub use load::{DockCounts, Limits, Load, Marks, MarksList, Unmerged};
 pub use no_link::NoLink;
+pub use row_store::RowStore;
 pub use status::Status;
 pub use std_desk::StdDesk;
+pub use std_streams::{StdSink, StdSource};
 pub use table::{
     Generations, PlacedRow, PlacedRowList, StreamTable, StreamTableList, TableSide, Tables,
 };

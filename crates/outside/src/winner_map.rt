@@ -69,4 +69,11 @@ impl WinnerMap {
         }
         Ok(copied)
     }
+
+    /// The rows, in order of their keys.
+    pub fn into_rows(self, alloc: Global) -> Result<RawRowList, NoMemory>
+        ensures { IfOk result (λ rows. rows ≡ self) }
+    {
+        Ok(RawRowList::from_vec(self.rows.into_values().collect(alloc)?))
+    }
 }

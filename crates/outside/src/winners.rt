@@ -94,4 +94,14 @@ impl Winners {
         }
         self.placed.copied(alloc)
     }
+
+    /// The winners, in order of their keys. While rows wait for memory there are none.
+    pub fn into_rows(self, alloc: Global) -> Result<RawRowList, NoMemory>
+        ensures { IfOk result (λ rows. rows ≡ self) }
+    {
+        if !self.waiting.is_empty() {
+            return Err(NoMemory);
+        }
+        self.placed.into_rows(alloc)
+    }
 }

@@ -1,5 +1,5 @@
 -- What a call of a dock in memory adds.
-use Rattle.std.proofs.Common.{◌≡◌, ℕ, List, [], ◌∷◌, ◌++◌, map, Option, None, Some, refl, sym, ◌∙◌, ap, subst}
+use Rattle.std.proofs.Common.{◌≡◌, ℕ, List, [], ◌∷◌, ◌++◌, map, Some, sym, ◌∙◌, ap, subst}
 use Rattle.std.proofs.lemmas.List.{map-append}
 use Rattle.basics.specs.Told.{told_more}
 use Rattle.outside.specs.declared.dock.DockTally.{DockTally}
@@ -11,7 +11,9 @@ use Rattle.outside.specs.Tables.{tables_of, tables_after, side_marks_of, plan_at
 use Rattle.outside.proofs.ToldLaws.{told_none}
 use Rattle.outside.proofs.DockLaws.{none_fell_refl}
 use Rattle.raw_tables.proofs.StoreLaws.{tables_more, marks_committed}
-use Rattle.outside_mem.specs.MemDock.{ToldEvent, told, DockState, seen_of, trace_tables, IsPlain}
+use Rattle.std.specs.Prelude.{Contains}
+use Rattle.outside_mem.specs.Calls.{Calls, call_made, next_call}
+use Rattle.outside_mem.specs.MemDock.{ToldEvent, told, DockState, seen_of, trace_tables, IsPlain, FailsOnly}
 
 pub grew_same : (old new : DockState) → new.trace ≡ old.trace → NoneFell old.tally new.tally → DockGrew (seen_of old) (seen_of new)
 grew_same old new same counts = record { counts = counts; more = []; grew = ap Some same ∙ sym (told_none (Some old.trace)); timed = tt }
@@ -35,3 +37,9 @@ marks_at_commit before now stream rows tally added = ap side_marks_of (tables_ad
 
 pub marks_at_plain : (before now : List ToldEvent) (event : Event) (tally : DockTally) → IsPlain event → now ≡ before ++ told event tally ∷ [] → side_marks_of (trace_tables now) ≡ side_marks_of (trace_tables before)
 marks_at_plain before now event tally plain added = ap side_marks_of (tables_added before now event tally added ∙ plain.tables (trace_tables before))
+
+-- a call that was to fail
+pub fails_only : (old new : DockState) (calls : Calls) (tally : DockTally) → calls ≡ call_made old.calls → Contains old.calls.fails (next_call old.calls) → new ≡ record old { calls = calls; tally = tally } → FailsOnly old new
+fails_only old new calls tally counted numbered is =
+    let tallies : tally ≡ new.tally = sym (ap (λ (d : DockState). d.tally) is) in
+    record { numbered = numbered; state = is ∙ (ap (λ (c : Calls). record old { calls = c; tally = tally }) counted ∙ ap (λ (t : DockTally). record old { calls = call_made old.calls; tally = t }) tallies) }

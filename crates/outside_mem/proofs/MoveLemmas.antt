@@ -1,6 +1,5 @@
 -- What a call moves through the hand of a dock in memory.
 use Rattle.std.proofs.Common.{◌≡◌, ℕ, List, [], ◌∷◌, ◌++◌, map, Bool, true, false, Option, None, Some, refl, sym, ◌∙◌, ap}
-use Rattle.std.specs.List.{AllByRecursion}
 use Rattle.std.proofs.lemmas.List.{append-nil}
 use Rattle.outside.specs.declared.dock.DockTally.{DockTally}
 use Rattle.outside.specs.declared.event.Event.{Event}

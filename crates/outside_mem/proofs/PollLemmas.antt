@@ -1,12 +1,12 @@
 -- What a poll of a dock in memory adds.
-use Rattle.std.proofs.Common.{◌≡◌, ℕ, ◌+◌, ◌-◌, ◌^◌, ◌≤◌, min, List, [], ◌∷◌, ◌++◌, map, Bool, true, false, Option, None, Some, refl, sym, ◌∙◌, ap, arith}
+use Rattle.std.proofs.Common.{◌≡◌, ℕ, List, [], ◌∷◌, ◌++◌, map, Bool, true, false, Some, refl, sym, ◌∙◌, ap, arith}
 use Rattle.std.specs.Prelude.{if◌then◌else◌}
 use Rattle.std.proofs.lemmas.List.{append-nil}
 use Rattle.outside.specs.declared.dock.DockTally.{DockTally}
 use Rattle.outside.specs.declared.event.Event.TheVariants.{Took, TookEnd}
 use Rattle.outside.specs.declared.link.Polled.{Polled}
 use Rattle.outside.specs.declared.link.Polled.TheVariants as polled
-use Rattle.basics.specs.Told.{told_by, Rose, RoseIf}
+use Rattle.basics.specs.Told.{told_by, RoseIf}
 use Rattle.outside.specs.Link.{QuietPoll}
 use Rattle.outside.specs.Dock.{DockGrew, NoneFell, event_of, dock_events, took_over, TookAdds}
 use Rattle.outside.specs.Tables.{side_marks_of}

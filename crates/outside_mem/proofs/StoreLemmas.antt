@@ -1,5 +1,5 @@
 -- A store after one more event.
-use Rattle.std.proofs.Common.{◌≡◌, ℕ, ◌+◌, ◌<◌, ◌^◌, zero, suc, List, [], ◌∷◌, ◌++◌, map, length, set, slice_index, Bool, true, false, Option, None, Some, slice_get, refl, sym, ◌∙◌, ap, subst, arith}
+use Rattle.std.proofs.Common.{◌≡◌, ℕ, ◌<◌, ◌^◌, zero, suc, List, [], ◌∷◌, ◌++◌, map, length, set, slice_index, Bool, true, false, Option, None, Some, slice_get, refl, sym, ◌∙◌, ap, subst, arith}
 use Rattle.std.specs.Prelude.{unwrap_or}
 use Rattle.std.specs.List.{AllByRecursion}
 use Rattle.std.proofs.lemmas.List.{map-append}
@@ -8,15 +8,20 @@ use Rattle.outside.specs.declared.event.Event.{Event}
 use Rattle.outside.specs.declared.event.Event.TheVariants.{Opened, Committed, Merged, Shown, TookEnd}
 use Rattle.outside.specs.declared.event.RawRow.{RawRow}
 use Rattle.outside.specs.declared.event.StreamPlan.{StreamPlan}
-use Rattle.outside.specs.declared.load.Marks.{Marks}
 use Rattle.outside.specs.declared.table.StreamTable.{StreamTable}
 use Rattle.outside.specs.declared.table.Tables.{Tables}
 use Rattle.outside.specs.Dock.{event_of, took_over, took_over_after, HasOwnIds, IsPage, IsPlace, HasStreams}
-use Rattle.outside.specs.Tables.{tables_of, tables_after, tables_committed, tables_merged, tables_shown, tables_opened, plan_at, first_marks, shown_event, shown_event_for, shown_table, table_in, side_of, side_marks_of, page_of}
+use Rattle.outside.specs.Tables.{tables_of, tables_after, tables_committed, tables_merged, tables_shown, tables_opened, plan_at, shown_event, shown_event_for, shown_table, table_in, side_of, side_marks_of, page_of}
+use Rattle.outside.specs.Places.{TablesRise}
+use Rattle.outside.proofs.PlaceLaws.{tables_rise}
 use Rattle.raw_tables.specs.Store.{IsStore, TablesFit, TableFits}
 use Rattle.raw_tables.proofs.StoreLaws.{tables_more, over_more, fits_committed, fits_merged, fits_shown, fits_opened, marks_merged, marks_after_show}
 use Rattle.raw_tables.proofs.PageLaws.{store_page, mark_fits, fits_in}
 use Rattle.outside_mem.specs.MemDock.{ToldEvent, told, IsPlain, trace_tables}
+
+-- the places of a store rise
+pub store_rises : (tables : Tables) (over : Bool) (events : List Event) → IsStore tables over events → TablesRise tables
+store_rises tables over events store = subst (λ (t : Tables). TablesRise t) (sym store.tables_are) (tables_rise events)
 
 -- The store before, and its trace with one event more
 

@@ -1,3 +1,4 @@
 pub mod MemDesk
 pub mod Calls
 pub mod MemDock
+pub mod Streams

@@ -1,5 +1,5 @@
 -- A dock in memory: what it holds, and what a call adds.
-use Rattle.std.specs.Prelude.{◌≡◌, ℕ, ◌+◌, ◌-◌, ◌^◌, ◌≤◌, min, List, [], ◌∷◌, ◌++◌, map, Bool, if◌then◌else◌, Option, None, Some}
+use Rattle.std.specs.Prelude.{◌≡◌, ℕ, ◌+◌, ◌-◌, ◌^◌, ◌≤◌, min, List, [], ◌∷◌, ◌++◌, map, Bool, if◌then◌else◌, Contains, Option, Some}
 use Rattle.outside.specs.Link.{Told}
 use Rattle.outside.specs.Hand.{Hand, HandPolls, fresh_hand}
 use Rattle.outside.specs.Dock.{DockSeen, DockFace, event_of, took_over, took_over_after, IsWithinLimit}
@@ -12,7 +12,7 @@ use Rattle.outside.specs.declared.link.PollKind.TheVariants as kind
 use Rattle.outside.specs.declared.link.Polled.{Polled}
 use Rattle.outside.specs.declared.link.Polled.TheVariants as polled
 use Rattle.outside.specs.declared.table.Tables.{Tables}
-use Rattle.outside_mem.specs.Calls.{Calls, first_calls}
+use Rattle.outside_mem.specs.Calls.{Calls, first_calls, next_call, call_made}
 
 -- The trace
 
@@ -71,6 +71,18 @@ no_tally = record { read_faults = 0; store_faults = 0; write_faults = 0; quiet =
 -- a dock in which nothing happened
 abbrev pub first_state : ℕ → List ℕ → DockState
 first_state moment fails = record { trace = []; tally = no_tally; poll = kind.Other; rows_read = 0; hand = fresh_hand; moment = moment; calls = first_calls fails }
+
+-- Calls that fail
+
+-- The call was to fail, and nothing has changed but what was counted: calls and faults.
+pub record FailsOnly (old new : DockState) : Type 0 where
+  pub numbered : Contains old.calls.fails (next_call old.calls)
+  pub state : new ≡ record old { calls = call_made old.calls; tally = new.tally }
+
+-- so of a poll, which is the last one
+pub record FailsPoll (old new : DockState) : Type 0 where
+  pub numbered : Contains old.calls.fails (next_call old.calls)
+  pub state : new ≡ record old { calls = call_made old.calls; tally = new.tally; poll = kind.Other }
 
 -- A poll that is not to fail
 

@@ -18,7 +18,7 @@ pub struct NamedText {
 pub type NamedTextList = Sequence<NamedText>;
 
 /// A desk that keeps its texts and the lines said, and tells both. Of its calls, counted from 1, those whose numbers
-/// it was given fail.
+/// it was given fail. A call that finds no memory counts as a call, and as no fault.
 #[derive(Debug, Drop)]
 pub struct MemDesk {
     alloc: Global,
@@ -99,6 +99,7 @@ impl Desk for MemDesk {
     ghost use Rattle.std.specs.Prelude.{Contains, IfOk, OnOk, OnErr, IsErrOf, ◌++◌, ◌∷◌, []};
     ghost use Rattle.basics.specs.Told.{RoseIf};
     ghost use Rattle.outside.specs.Desk.{SaidLines, SaidFront};
+    ghost use Rattle.outside.specs.FaultCounts.{StaysUnlessFailed};
     ghost use Rattle.outside_mem.specs.MemDesk.{seen_of, one_more, fault_after, ReadsText, FailsToRead};
 
     ghost seen = { seen_of };
@@ -108,6 +109,7 @@ impl Desk for MemDesk {
         ensures read { IfOk result (ReadsText self.old name.now) }
         ensures failed { IsErrOf result Fault.Failed → FailsToRead self.old name.now }
         ensures faults { RoseIf (IsErrOf result Fault.Failed) self.old.read_faults self.new.read_faults }
+        ensures stays { StaysUnlessFailed result self.old.read_faults self.new.read_faults }
         ensures counted { self.new.read_faults ≡ fault_after result self.old.read_faults }
         ensures others { self.new ≡ record (self.old) { calls = one_more self.old.calls; read_faults = self.new.read_faults } }
     {
@@ -128,6 +130,7 @@ impl Desk for MemDesk {
         ensures said { OnOk result (¬ Contains self.old.fails (one_more self.old.calls)) }
         ensures unsaid { OnErr result (self.new.said ≡ self.old.said) }
         ensures failed { IsErrOf result Fault.Failed → Contains self.old.fails (one_more self.old.calls) }
+        ensures stays { StaysUnlessFailed result self.old.say_faults self.new.say_faults }
         ensures counted { self.new.say_faults ≡ fault_after result self.old.say_faults }
         ensures others { self.new ≡ record (self.old) { calls = one_more self.old.calls; said = self.new.said; say_faults = self.new.say_faults } }
     {
@@ -146,6 +149,7 @@ impl Desk for MemDesk {
         ensures flushed { OnOk result (¬ Contains self.old.fails (one_more self.old.calls)) }
         ensures failed { IsErrOf result Fault.Failed → Contains self.old.fails (one_more self.old.calls) }
         ensures faults { RoseIf (IsErrOf result Fault.Failed) self.old.say_faults self.new.say_faults }
+        ensures stays { StaysUnlessFailed result self.old.say_faults self.new.say_faults }
         ensures counted { self.new.say_faults ≡ fault_after result self.old.say_faults }
         ensures others { self.new ≡ record (self.old) { calls = one_more self.old.calls; say_faults = self.new.say_faults } }
     {

@@ -155,7 +155,9 @@ impl MemDock {
     ghost use Rattle.outside.specs.Dock.{DockGrew, DockMoves, TookAdds, IsWithinLimit, dock_events};
     ghost use Rattle.outside.specs.declared.event.Event.{Event};
     ghost use Rattle.outside.specs.Tables.{side_marks_of};
-    ghost use Rattle.outside_mem.specs.MemDock.{told, seen_of, Gives, trace_tables};
+    ghost use Rattle.std.specs.Prelude.{Contains};
+    ghost use Rattle.outside_mem.specs.Calls.{next_call, call_made};
+    ghost use Rattle.outside_mem.specs.MemDock.{told, seen_of, Gives, trace_tables, FailsOnly};
 
     // Adds that a line was taken.
     fn took(&mut self, line: &[u8]) -> Result<(), NoMemory>
@@ -246,6 +248,9 @@ impl MemDock {
         ensures quiet { QuietPoll result self.old.tally.quiet self.new.tally.quiet }
         ensures faults { RoseIf (result ≡ Polled.Failed) self.old.tally.read_faults self.new.tally.read_faults }
         ensures counts { self.new.tally ≡ record (self.old.tally) { read_faults = self.new.tally.read_faults; quiet = self.new.tally.quiet } }
+        ensures calls { self.new.calls ≡ call_made self.old.calls }
+        ensures passes { ¬ Contains self.old.calls.fails (next_call self.old.calls) → ¬ result ≡ Polled.Failed }
+        ensures failed { result ≡ Polled.Failed → FailsOnly self.old self.new }
     {
         if self.calls.is_failing() {
             self.tally.read_faults = self.tally.read_faults.saturating_add(1);
@@ -260,12 +265,31 @@ impl MemDock {
 }
 
 impl Dock for MemDock {
-    ghost use Rattle.outside_mem.specs.MemDock.{seen_of};
+    ghost use Rattle.std.specs.Prelude.{◌≡◌, ◌<◌, ◌≤◌, ◌^◌, ℕ, length, map, slice_index, Contains, IfOk, IfSome, IsSome, IsErrOf, OnOk, OnErr};
+    ghost use Rattle.basics.specs.Told.{RoseIf, Rose};
+    ghost use Rattle.outside.specs.declared.event.Event.{Event};
+    ghost use Rattle.outside.specs.Link.{AddsOn, kind_of, QuietPoll};
+    ghost use Rattle.outside.specs.Tables.{marks_in, page_of, winner_of, side_marks_of};
+    ghost use Rattle.outside.specs.Hand.{HandPolls, HandEmits};
+    ghost use Rattle.outside.specs.Dock.{dock_events, tables, DockGrew, DockMoves, TookAdds, IsWithinLimit, IsPlace, OpenAdds, OpenFace, merged_face, ShowAdds, IsPage, PageReads, ReadAtMost, OpensCount, HasOwnIds};
+    ghost use Rattle.outside_mem.specs.Calls.{next_call, call_made};
+    ghost use Rattle.outside_mem.specs.MemDock.{seen_of, FailsOnly, FailsPoll};
 
     ghost seen = { seen_of };
 
     #[tactic(auto, using(crate::proofs::DockLemmas::grew_same))]
-    fn open_store(&mut self, _: &str) -> Result<(), Fault> {
+    fn open_store(&mut self, _: &str) -> Result<(), Fault>
+        ensures grew { DockGrew (seen_of self.old) (seen_of self.new) }
+        ensures events { dock_events (seen_of self.new) ≡ dock_events (seen_of self.old) }
+        ensures face { (seen_of self.new).face ≡ (seen_of self.old).face }
+        ensures rows_read { (seen_of self.new).rows_read ≡ (seen_of self.old).rows_read }
+        ensures opens { OpensCount result (seen_of self.old).counts.opens (seen_of self.new).counts.opens }
+        ensures faults { RoseIf (IsErrOf result Fault.Failed) (seen_of self.old).counts.store_faults (seen_of self.new).counts.store_faults }
+        ensures counts { (seen_of self.new).counts ≡ record ((seen_of self.old).counts) { store_faults = (seen_of self.new).counts.store_faults; opens = (seen_of self.new).counts.opens } }
+        ensures calls { self.new.calls ≡ call_made self.old.calls }
+        ensures passes { OnOk result (¬ Contains self.old.calls.fails (next_call self.old.calls)) }
+        ensures failed { IsErrOf result Fault.Failed → FailsOnly self.old self.new }
+    {
         if self.calls.is_failing() {
             return Err(self.fail_store());
         }
@@ -273,21 +297,59 @@ impl Dock for MemDock {
         Ok(())
     }
 
-    fn poll_line(&mut self) -> Polled {
+    fn poll_line(&mut self) -> Polled
+        ensures grew { DockGrew (seen_of self.old) (seen_of self.new) }
+        ensures moves { DockMoves (seen_of self.old) (seen_of self.new) }
+        ensures events { TookAdds result (dock_events (seen_of self.old)) (dock_events (seen_of self.new)) }
+        ensures within { IsWithinLimit result }
+        ensures face { (seen_of self.new).face ≡ record ((seen_of self.old).face) { poll = kind_of result; hand = (seen_of self.new).face.hand } }
+        ensures hand { HandPolls result (seen_of self.old).face.hand (seen_of self.new).face.hand }
+        ensures rows_read { (seen_of self.new).rows_read ≡ (seen_of self.old).rows_read }
+        ensures quiet { QuietPoll result (seen_of self.old).counts.quiet (seen_of self.new).counts.quiet }
+        ensures faults { RoseIf (result ≡ Polled.Failed) (seen_of self.old).counts.read_faults (seen_of self.new).counts.read_faults }
+        ensures counts { (seen_of self.new).counts ≡ record ((seen_of self.old).counts) { read_faults = (seen_of self.new).counts.read_faults; quiet = (seen_of self.new).counts.quiet } }
+        ensures calls { self.new.calls ≡ call_made self.old.calls }
+        ensures passes { ¬ Contains self.old.calls.fails (next_call self.old.calls) → ¬ result ≡ Polled.Failed }
+        ensures failed { result ≡ Polled.Failed → FailsPoll self.old self.new }
+    {
         let polled = self.next_or_fail();
         self.poll = kind_of_poll(&polled);
         polled
     }
 
     #[tactic(auto, using(crate::proofs::DockLemmas::grew_same))]
-    fn read_marks(&mut self, alloc: Global, streams: &StreamIdList) -> Result<MarksList, Fault> {
+    fn read_marks(&mut self, alloc: Global, streams: &StreamIdList) -> Result<MarksList, Fault>
+        ensures grew { DockGrew (seen_of self.old) (seen_of self.new) }
+        ensures one_each { IfOk result (λ marks. length marks ≡ length streams.now) }
+        ensures marks { IfOk result (λ marks. IfSome (tables (seen_of self.old)) (λ store. marks ≡ map (marks_in store) streams.now)) }
+        ensures events { dock_events (seen_of self.new) ≡ dock_events (seen_of self.old) }
+        ensures face { (seen_of self.new).face ≡ (seen_of self.old).face }
+        ensures rows_read { (seen_of self.new).rows_read ≡ (seen_of self.old).rows_read }
+        ensures faults { RoseIf (IsErrOf result Fault.Failed) (seen_of self.old).counts.store_faults (seen_of self.new).counts.store_faults }
+        ensures counts { (seen_of self.new).counts ≡ record ((seen_of self.old).counts) { store_faults = (seen_of self.new).counts.store_faults } }
+        ensures calls { self.new.calls ≡ call_made self.old.calls }
+        ensures passes { OnOk result (¬ Contains self.old.calls.fails (next_call self.old.calls)) }
+        ensures failed { IsErrOf result Fault.Failed → FailsOnly self.old self.new }
+    {
         if self.calls.is_failing() {
             return Err(self.fail_store());
         }
         Ok(self.store.marks(alloc, streams)?)
     }
 
-    fn open_load(&mut self, plan: &LoadPlan) -> Result<Load, Fault> {
+    fn open_load(&mut self, plan: &LoadPlan) -> Result<Load, Fault>
+        requires { HasOwnIds plan.now }
+        ensures grew { DockGrew (seen_of self.old) (seen_of self.new) }
+        ensures events { OpenAdds result plan.now (seen_of self.old).face.moment (dock_events (seen_of self.old)) (dock_events (seen_of self.new)) }
+        ensures face { OpenFace result plan.now (seen_of self.old).face (seen_of self.new).face }
+        ensures side_marks { IfOk result (λ _. IfSome (tables (seen_of self.new)) (λ store. (seen_of self.new).face.side_marks ≡ side_marks_of store)) }
+        ensures rows_read { (seen_of self.new).rows_read ≡ (seen_of self.old).rows_read }
+        ensures faults { RoseIf (IsErrOf result Fault.Failed) (seen_of self.old).counts.store_faults (seen_of self.new).counts.store_faults }
+        ensures counts { (seen_of self.new).counts ≡ record ((seen_of self.old).counts) { store_faults = (seen_of self.new).counts.store_faults } }
+        ensures calls { self.new.calls ≡ call_made self.old.calls }
+        ensures passes { OnOk result (¬ Contains self.old.calls.fails (next_call self.old.calls)) }
+        ensures failed { IsErrOf result Fault.Failed → FailsOnly self.old self.new }
+    {
         if self.calls.is_failing() {
             return Err(self.fail_store());
         }
@@ -297,7 +359,19 @@ impl Dock for MemDock {
     }
 
     #[tactic(auto, using(crate::proofs::DockLemmas::grew_same, crate::proofs::DockLemmas::grew_event, crate::proofs::DockLemmas::events_added, crate::proofs::DockLemmas::marks_at_commit, crate::proofs::MoveLemmas::moves_same, crate::proofs::MoveLemmas::moves_still))]
-    fn commit(&mut self, stream: StreamNo, rows: &RawRowList) -> Result<(), Fault> {
+    fn commit(&mut self, stream: StreamNo, rows: &RawRowList) -> Result<(), Fault>
+        requires { stream < length (seen_of self.old).face.side_marks }
+        ensures grew { DockGrew (seen_of self.old) (seen_of self.new) }
+        ensures moves { DockMoves (seen_of self.old) (seen_of self.new) }
+        ensures events { AddsOn result (Event.Committed stream rows.now) (dock_events (seen_of self.old)) (dock_events (seen_of self.new)) }
+        ensures face { (seen_of self.new).face ≡ (seen_of self.old).face }
+        ensures rows_read { (seen_of self.new).rows_read ≡ (seen_of self.old).rows_read }
+        ensures faults { RoseIf (IsErrOf result Fault.Failed) (seen_of self.old).counts.store_faults (seen_of self.new).counts.store_faults }
+        ensures counts { (seen_of self.new).counts ≡ record ((seen_of self.old).counts) { store_faults = (seen_of self.new).counts.store_faults } }
+        ensures calls { self.new.calls ≡ call_made self.old.calls }
+        ensures passes { OnOk result (¬ Contains self.old.calls.fails (next_call self.old.calls)) }
+        ensures failed { IsErrOf result Fault.Failed → FailsOnly self.old self.new }
+    {
         if self.calls.is_failing() {
             return Err(self.fail_store());
         }
@@ -305,7 +379,19 @@ impl Dock for MemDock {
     }
 
     #[tactic(auto, using(crate::proofs::DockLemmas::grew_same, crate::proofs::DockLemmas::grew_event, crate::proofs::DockLemmas::events_added, crate::proofs::DockLemmas::marks_at_plain, crate::proofs::MoveLemmas::moves_same, crate::proofs::MoveLemmas::moves_emitted))]
-    fn emit(&mut self, line: &[u8]) -> Result<(), Fault> {
+    fn emit(&mut self, line: &[u8]) -> Result<(), Fault>
+        ensures grew { DockGrew (seen_of self.old) (seen_of self.new) }
+        ensures moves { DockMoves (seen_of self.old) (seen_of self.new) }
+        ensures events { AddsOn result (Event.Emitted line.now) (dock_events (seen_of self.old)) (dock_events (seen_of self.new)) }
+        ensures face { (seen_of self.new).face ≡ record ((seen_of self.old).face) { hand = (seen_of self.new).face.hand } }
+        ensures hand { HandEmits result line.now (seen_of self.old).face.hand (seen_of self.new).face.hand }
+        ensures rows_read { (seen_of self.new).rows_read ≡ (seen_of self.old).rows_read }
+        ensures faults { RoseIf (IsErrOf result Fault.Failed) (seen_of self.old).counts.write_faults (seen_of self.new).counts.write_faults }
+        ensures counts { (seen_of self.new).counts ≡ record ((seen_of self.old).counts) { write_faults = (seen_of self.new).counts.write_faults } }
+        ensures calls { self.new.calls ≡ call_made self.old.calls }
+        ensures passes { OnOk result (¬ Contains self.old.calls.fails (next_call self.old.calls)) }
+        ensures failed { IsErrOf result Fault.Failed → FailsOnly self.old self.new }
+    {
         if self.calls.is_failing() {
             return Err(self.fail_write());
         }
@@ -318,7 +404,21 @@ impl Dock for MemDock {
         alloc: Global,
         stream: StreamNo,
         most: u32,
-    ) -> Result<Unmerged, Fault> {
+    ) -> Result<Unmerged, Fault>
+        requires known { stream < length (seen_of self.old).face.side_marks }
+        requires some { 0 < most }
+        ensures grew { DockGrew (seen_of self.old) (seen_of self.new) }
+        ensures is_page { IfOk result (λ page. IsPage (slice_index (seen_of self.old).face.side_marks stream) most page) }
+        ensures page { IfOk result (λ page. IfSome (tables (seen_of self.old)) (λ store. page ≡ page_of store stream most)) }
+        ensures events { dock_events (seen_of self.new) ≡ dock_events (seen_of self.old) }
+        ensures face { (seen_of self.new).face ≡ (seen_of self.old).face }
+        ensures rows_read { PageReads result (seen_of self.old).rows_read (seen_of self.new).rows_read }
+        ensures faults { RoseIf (IsErrOf result Fault.Failed) (seen_of self.old).counts.store_faults (seen_of self.new).counts.store_faults }
+        ensures counts { (seen_of self.new).counts ≡ record ((seen_of self.old).counts) { store_faults = (seen_of self.new).counts.store_faults } }
+        ensures calls { self.new.calls ≡ call_made self.old.calls }
+        ensures passes { OnOk result (¬ Contains self.old.calls.fails (next_call self.old.calls)) }
+        ensures failed { IsErrOf result Fault.Failed → FailsOnly self.old self.new }
+    {
         if self.calls.is_failing() {
             return Err(self.fail_store());
         }
@@ -333,7 +433,19 @@ impl Dock for MemDock {
         alloc: Global,
         stream: StreamNo,
         key: &[u8],
-    ) -> Result<Option<RawRow>, Fault> {
+    ) -> Result<Option<RawRow>, Fault>
+        requires { stream < length (seen_of self.old).face.side_marks }
+        ensures grew { DockGrew (seen_of self.old) (seen_of self.new) }
+        ensures winner { IfOk result (λ winner. IfSome (tables (seen_of self.old)) (λ store. winner ≡ winner_of store stream key.now)) }
+        ensures events { dock_events (seen_of self.new) ≡ dock_events (seen_of self.old) }
+        ensures face { (seen_of self.new).face ≡ (seen_of self.old).face }
+        ensures rows_read { ReadAtMost 1 (seen_of self.old).rows_read (seen_of self.new).rows_read }
+        ensures faults { RoseIf (IsErrOf result Fault.Failed) (seen_of self.old).counts.store_faults (seen_of self.new).counts.store_faults }
+        ensures counts { (seen_of self.new).counts ≡ record ((seen_of self.old).counts) { store_faults = (seen_of self.new).counts.store_faults } }
+        ensures calls { self.new.calls ≡ call_made self.old.calls }
+        ensures passes { OnOk result (¬ Contains self.old.calls.fails (next_call self.old.calls)) }
+        ensures failed { IsErrOf result Fault.Failed → FailsOnly self.old self.new }
+    {
         if self.calls.is_failing() {
             return Err(self.fail_store());
         }
@@ -345,7 +457,20 @@ impl Dock for MemDock {
     }
 
     #[tactic(auto, using(crate::proofs::DockLemmas::grew_same, crate::proofs::DockLemmas::grew_event, crate::proofs::DockLemmas::events_added, crate::proofs::MoveLemmas::moves_same, crate::proofs::MoveLemmas::moves_still))]
-    fn merge(&mut self, stream: StreamNo, winners: &RawRowList, mark: u64) -> Result<(), Fault> {
+    fn merge(&mut self, stream: StreamNo, winners: &RawRowList, mark: u64) -> Result<(), Fault>
+        requires known { stream < length (seen_of self.old).face.side_marks }
+        requires place { IsPlace mark }
+        ensures grew { DockGrew (seen_of self.old) (seen_of self.new) }
+        ensures moves { DockMoves (seen_of self.old) (seen_of self.new) }
+        ensures events { AddsOn result (Event.Merged stream winners.now mark) (dock_events (seen_of self.old)) (dock_events (seen_of self.new)) }
+        ensures face { (seen_of self.new).face ≡ merged_face result stream mark (seen_of self.old).face }
+        ensures rows_read { (seen_of self.new).rows_read ≡ (seen_of self.old).rows_read }
+        ensures faults { RoseIf (IsErrOf result Fault.Failed) (seen_of self.old).counts.store_faults (seen_of self.new).counts.store_faults }
+        ensures counts { (seen_of self.new).counts ≡ record ((seen_of self.old).counts) { store_faults = (seen_of self.new).counts.store_faults } }
+        ensures calls { self.new.calls ≡ call_made self.old.calls }
+        ensures passes { OnOk result (¬ Contains self.old.calls.fails (next_call self.old.calls)) }
+        ensures failed { IsErrOf result Fault.Failed → FailsOnly self.old self.new }
+    {
         if self.calls.is_failing() {
             return Err(self.fail_store());
         }
@@ -356,7 +481,19 @@ impl Dock for MemDock {
     }
 
     #[tactic(auto, using(crate::proofs::DockLemmas::grew_same, crate::proofs::DockLemmas::grew_event, crate::proofs::DockLemmas::events_added, crate::proofs::MoveLemmas::moves_same, crate::proofs::MoveLemmas::moves_still))]
-    fn show(&mut self, stream: StreamNo) -> Result<(), Fault> {
+    fn show(&mut self, stream: StreamNo) -> Result<(), Fault>
+        requires { stream < length (seen_of self.old).face.side_marks }
+        ensures grew { DockGrew (seen_of self.old) (seen_of self.new) }
+        ensures moves { DockMoves (seen_of self.old) (seen_of self.new) }
+        ensures events { ShowAdds result stream (dock_events (seen_of self.old)) (dock_events (seen_of self.new)) }
+        ensures face { (seen_of self.new).face ≡ (seen_of self.old).face }
+        ensures rows_read { (seen_of self.new).rows_read ≡ (seen_of self.old).rows_read }
+        ensures faults { RoseIf (IsErrOf result Fault.Failed) (seen_of self.old).counts.store_faults (seen_of self.new).counts.store_faults }
+        ensures counts { (seen_of self.new).counts ≡ record ((seen_of self.old).counts) { store_faults = (seen_of self.new).counts.store_faults } }
+        ensures calls { self.new.calls ≡ call_made self.old.calls }
+        ensures passes { OnOk result (¬ Contains self.old.calls.fails (next_call self.old.calls)) }
+        ensures failed { IsErrOf result Fault.Failed → FailsOnly self.old self.new }
+    {
         if self.calls.is_failing() {
             return Err(self.fail_store());
         }

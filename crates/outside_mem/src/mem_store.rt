@@ -215,7 +215,7 @@ impl MemStore {
     }
 
     /// The next rows of a stream that are not merged.
-    #[tactic(auto, using(crate::proofs::StoreLemmas::page_known))]
+    #[tactic(auto, using(crate::proofs::StoreLemmas::page_known, crate::proofs::StoreLemmas::store_rises))]
     pub fn page(&self, alloc: Global, stream: StreamNo, most: usize) -> Result<Unmerged, NoMemory>
         requires { 0 < most }
         ensures page { IfOk result (λ page. page ≡ page_of (trace_tables self.now) stream most) }

@@ -3,3 +3,4 @@ pub mod PageLemmas
 pub mod TableLaws
 pub mod StoreLaws
 pub mod PageLaws
+pub mod BehindLemmas

@@ -1,7 +1,6 @@
 -- What is known of every page of a store.
-use Rattle.std.proofs.Common.{◌≡◌, ℕ, ◌<◌, ◌≤◌, ◌^◌, zero, suc, List, [], ◌∷◌, map, filter, take, length, Bool, true, false, cond, ◌&&◌, not, nat_lt, Option, None, Some, slice_get, slice_index, refl, sym, ◌∙◌, ap, subst, arith}
+use Rattle.std.proofs.Common.{◌≡◌, ℕ, ◌<◌, ◌≤◌, ◌^◌, zero, suc, List, [], ◌∷◌, map, filter, take, length, Bool, true, false, cond, ◌&&◌, nat_lt, Option, Some, slice_get, slice_index, refl, sym, ap, subst, arith}
 use Rattle.std.specs.List.{AllByRecursion}
-use Rattle.std.specs.Str.{bytes_eq}
 use Rattle.std.proofs.lemmas.Bool.Decides.{nat_tests}
 use Rattle.outside.specs.declared.event.StreamPlan.{StreamPlan}
 use Rattle.outside.specs.declared.load.Marks.{Marks}
@@ -10,8 +9,9 @@ use Rattle.outside.specs.declared.table.StreamTable.{StreamTable}
 use Rattle.outside.specs.declared.table.Tables.{Tables}
 use Rattle.outside.specs.Tables.{same_id, table_in, side_of, side_marks_of, plan_at, page_of, page_for, page_in, last_place, unmerged_in, is_unmerged, takes_part, row_of}
 use Rattle.outside.specs.Dock.{IsPage, IsPlace}
-use Rattle.raw_tables.specs.Store.{IsUpTo, TableFits, TablesFit}
-use Rattle.raw_tables.proofs.StoreLaws.{all_filtered}
+use Rattle.outside.specs.Places.{IsUpTo}
+use Rattle.outside.proofs.PlaceLaws.{all_filtered}
+use Rattle.raw_tables.specs.Store.{TableFits, TablesFit}
 
 abbrev IsAbove : ℕ → PlacedRow → Type 0
 IsAbove mark placed = mark < placed.place

@@ -1,5 +1,5 @@
 -- A page that is full.
-use Rattle.std.proofs.Common.{◌≡◌, ◌∷◌, ◌++◌, ◌<◌, ◌≤◌, ℕ, List, [], map, filter, take, drop, length, get_or, zero, suc, Bool, true, false, cond, nat_lt, refl, sym, ◌∙◌, ap, arith}
+use Rattle.std.proofs.Common.{◌≡◌, ◌∷◌, ◌++◌, ◌<◌, ◌≤◌, ℕ, List, [], map, filter, take, drop, length, get_or, zero, suc, Bool, true, false, cond, nat_lt, refl, sym, ◌∙◌, ap, subst, arith}
 use Rattle.std.proofs.Math.Seq.{drop-cons}
 use Rattle.std.proofs.lemmas.List.{take-append-drop, length-append}
 use Rattle.std.proofs.lemmas.Bool.Decides.{nat_tests}
@@ -10,7 +10,7 @@ use Rattle.outside.specs.declared.table.PlacedRow.{PlacedRow}
 use Rattle.outside.specs.declared.table.StreamTable.{StreamTable}
 use Rattle.outside.specs.Tables.{is_unmerged, side_of, page_in, last_place, row_of}
 
-filter_both : (test : PlacedRow → Bool) (xs ys : List PlacedRow) → filter test (xs ++ ys) ≡ filter test xs ++ filter test ys
+pub filter_both : (test : PlacedRow → Bool) (xs ys : List PlacedRow) → filter test (xs ++ ys) ≡ filter test xs ++ filter test ys
 filter_both test [] ys = refl
 filter_both test (x ∷ xs) ys = elim (test x) as (λ b. cond b (x ∷ filter test (xs ++ ys)) (filter test (xs ++ ys)) ≡ cond b (x ∷ filter test xs) (filter test xs) ++ filter test ys) [ true ↦ ap (λ (zs : List PlacedRow). x ∷ zs) (filter_both test xs ys) | false ↦ filter_both test xs ys ]
 
@@ -49,3 +49,12 @@ pub page_full : (plan : StreamPlan) (table : StreamTable) (most from i mark : �
 page_full plan table most from i mark placed rows begins within is passes rows_are mark_is few many =
     full (is_unmerged plan table.marks from) table.rows most from i mark placed rows within is passes rows_are mark_is few many
     ∙ ap (λ (f : ℕ). page_by (is_unmerged plan table.marks f) f table.rows most) begins
+
+abbrev page_from : ℕ → List PlacedRow → ℕ → Unmerged
+page_from from unmerged most = record { rows = map row_of (take most unmerged); mark = last_place from (take most unmerged); more = nat_lt most (length unmerged) }
+
+-- a page of rows of which the same are unmerged
+pub page_behind : (plan : StreamPlan) (table : StreamTable) (items : List PlacedRow) (most from : ℕ) → from ≡ (side_of plan table).mark → filter (is_unmerged plan table.marks from) items ≡ filter (is_unmerged plan table.marks from) table.rows → page_in plan (record table { rows = items }) most ≡ page_in plan table most
+page_behind plan table items most from begins same =
+    let here : filter (is_unmerged plan table.marks (side_of plan table).mark) items ≡ filter (is_unmerged plan table.marks (side_of plan table).mark) table.rows = subst (λ (m : ℕ). filter (is_unmerged plan table.marks m) items ≡ filter (is_unmerged plan table.marks m) table.rows) begins same in
+    ap (λ (us : List PlacedRow). page_from (side_of plan table).mark us most) here

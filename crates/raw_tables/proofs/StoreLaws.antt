@@ -1,5 +1,5 @@
 -- Each event keeps what holds of a store.
-use Rattle.std.proofs.Common.{◌≡◌, ℕ, ◌+◌, ◌<◌, ◌≤◌, ◌^◌, zero, suc, List, [], ◌∷◌, ◌++◌, filter, fold, set, length, Bool, true, false, cond, subst, Option, None, Some, slice_get, refl, sym, ◌∙◌, ap, arith}
+use Rattle.std.proofs.Common.{◌≡◌, ℕ, ◌+◌, ◌<◌, ◌≤◌, ◌^◌, zero, suc, List, [], ◌∷◌, ◌++◌, fold, set, length, Bool, true, false, cond, subst, Option, None, Some, slice_get, refl, ◌∙◌, ap, arith}
 use Rattle.std.specs.List.{AllByRecursion}
 use Rattle.std.proofs.lemmas.List.Sums.{fold-append}
 use Rattle.basics.specs.declared.stream.StreamId.{StreamId}
@@ -13,7 +13,9 @@ use Rattle.outside.specs.declared.table.Tables.{Tables}
 use Rattle.outside.specs.Tables.{no_tables, empty_table, empty_side, started_again, table_in, changed, side_of, side_marks_of, placed_after, tables_of, tables_after, tables_opened, tables_committed, tables_merged, tables_shown, opened_stream, opened_table, opened_shown, opened_hidden, committed_table, merged_table, merged_side, shown_table, shown_hidden, shown_plan, is_from, floor_of, rises_above, is_kept_for, same_id}
 use Rattle.outside.specs.Dock.{HasOwnIds, HasOtherId, IsPlace, took_over, took_over_after}
 use Rattle.outside.proofs.ToldLaws.{all_both, all_map}
-use Rattle.raw_tables.specs.Store.{IsUpTo, TableFits, TablesFit, IsStore}
+use Rattle.outside.specs.Places.{IsUpTo}
+use Rattle.outside.proofs.PlaceLaws.{all_filtered, all_placed}
+use Rattle.raw_tables.specs.Store.{TableFits, TablesFit}
 use Rattle.raw_tables.proofs.TableLaws.{marks_set, marks_kept, marks_shown}
 
 pub tables_more : (events : List Event) (event : Event) → tables_of (events ++ event ∷ []) ≡ tables_after (tables_of events) event
@@ -35,16 +37,6 @@ fits_changed low high change id (table ∷ tables) below step fits =
     let tail = all_map (TableFits low) (TableFits high) tables (fits_higher low high below) fits.1 in
     let P : List StreamTable → Type 0 = AllByRecursion (TableFits high) in
     elim (same_id table.id id) as (λ b. P (cond b (change table ∷ tables) (table ∷ changed change id tables))) [ true ↦ (step table fits.0, tail) | false ↦ (fits_higher low high below table fits.0, rest) ]
-
-all_placed : (before : ℕ) (rows : List RawRow) → AllByRecursion (IsUpTo (before + length rows)) (placed_after before rows)
-all_placed before [] = tt
-all_placed before (row ∷ rows) = (omega arith, subst (λ (n : ℕ). AllByRecursion (IsUpTo n) (placed_after (before + 1) rows)) (omega arith) (all_placed (before + 1) rows))
-
-pub all_filtered : {A : Type 0} (P : A → Type 0) (test : A → Bool) (xs : List A) → AllByRecursion P xs → AllByRecursion P (filter test xs)
-all_filtered P test [] all = tt
-all_filtered P test (x ∷ xs) all =
-    let Q : List _ → Type 0 = AllByRecursion P in
-    elim (test x) as (λ b. Q (cond b (x ∷ filter test xs) (filter test xs))) [ true ↦ (all.0, all_filtered P test xs all.1) | false ↦ all_filtered P test xs all.1 ]
 
 -- Opening
 

@@ -1,5 +1,5 @@
 -- The table of a stream by its index, and rows with their places.
-use Rattle.std.proofs.Common.{◌≡◌, ◌∷◌, ◌++◌, ◌<◌, ◌+◌, ℕ, List, [], take, drop, length, set, get_or, suc, Some, true, refl, sym, ◌∙◌, ap, slice_get, arith}
+use Rattle.std.proofs.Common.{◌≡◌, ◌∷◌, ◌++◌, ◌<◌, ◌+◌, ℕ, List, [], take, drop, length, set, get_or, suc, Some, true, sym, ◌∙◌, ap, slice_get, arith}
 use Rattle.std.proofs.Math.Seq.{drop-cons}
 use Rattle.std.proofs.lemmas.List.{set_split, set-set, set-get_or, take_more, length-take-le}
 use Rattle.std.proofs.lemmas.Option.{slice_get-get_or, get_or_from_slice_get}
@@ -7,8 +7,8 @@ use Rattle.basics.specs.declared.stream.StreamId.{StreamId}
 use Rattle.outside.specs.declared.event.RawRow.{RawRow}
 use Rattle.outside.specs.declared.table.PlacedRow.{PlacedRow}
 use Rattle.outside.specs.declared.table.StreamTable.{StreamTable}
-use Rattle.outside.specs.Tables.{same_id, changed, empty_table, table_in, placed_after}
-use Rattle.raw_tables.specs.Found.{StandsAt, NeverCame}
+use Rattle.outside.specs.Tables.{same_id, changed, table_in, placed_after}
+use Rattle.raw_tables.specs.Found.{StandsAt}
 
 -- Where a table stands
 

@@ -1,15 +1,12 @@
 -- What holds of every store that events made, beside what they made of it.
-use Rattle.std.specs.Prelude.{◌≡◌, ℕ, ◌<◌, ◌≤◌, ◌^◌, List, Bool}
+use Rattle.std.specs.Prelude.{◌≡◌, ℕ, List, Bool}
 use Rattle.std.specs.List.{AllByRecursion}
 use Rattle.outside.specs.Tables.{tables_of}
+use Rattle.outside.specs.Places.{IsUpTo}
 use Rattle.outside.specs.Dock.{HasOwnIds, IsPlace, took_over}
 use Rattle.outside.specs.declared.event.Event.{Event}
-use Rattle.outside.specs.declared.table.PlacedRow.{PlacedRow}
 use Rattle.outside.specs.declared.table.StreamTable.{StreamTable}
 use Rattle.outside.specs.declared.table.Tables.{Tables}
-
-abbrev pub IsUpTo : ℕ → PlacedRow → Type 0
-IsUpTo places placed = placed.place ≤ places
 
 -- marks are places, and rows have places that were given
 pub record TableFits (places : ℕ) (table : StreamTable) : Type 0 where

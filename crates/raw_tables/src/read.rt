@@ -1,7 +1,11 @@
 // What is read of tables.
-ghost use Rattle.std.specs.Prelude.{◌≡◌, ◌<◌, map, length, IfOk};
+ghost use Rattle.std.specs.Prelude.{◌≡◌, ◌<◌, ◌≤◌, map, filter, take, drop, length, IfOk};
+ghost use Rattle.std.specs.List.{AllByRecursion};
 ghost use Rattle.std.specs.Option.{option_copied};
 ghost use Rattle.outside.specs.Tables.{marks_in, page_of, page_in, winner_of, side_of, is_unmerged, is_in_range, is_in_shown, is_from_to, shown_event, shown_table, shown_marks};
+ghost use Rattle.outside.specs.Places.{IsUpTo, IsBehind, PlacesRise, TablesRise};
+ghost use Rattle.outside.specs.declared.event.StreamPlan.{StreamPlan};
+ghost use Rattle.outside.specs.declared.load.Marks.{Marks};
 ghost use Rattle.outside.specs.declared.table.StreamTable.{StreamTable};
 
 use crate::change::FIRST_MARKS;
@@ -70,19 +74,40 @@ fn side<'a>(plan: &StreamPlan, table: &'a StreamTable) -> &'a TableSide
     }
 }
 
-/// The next rows of a table that the load's side has not merged, at most so many.
+// How many rows stand up to a mark.
+fn count_up_to(rows: &[PlacedRow], mark: u64) -> usize
+    requires { PlacesRise rows.now }
+    ensures within { result ≤ length rows.now }
+    ensures up_to { AllByRecursion (IsUpTo mark) (take result rows.now) }
+    ensures behind { AllByRecursion (IsBehind mark) (drop result rows.now) }
+{
+    rows.partition_point(|placed| placed.place <= mark)
+}
+
+// The rows behind a mark.
+fn rows_behind(rows: &[PlacedRow], mark: u64) -> &[PlacedRow]
+    requires { PlacesRise rows.now }
+    ensures behind { AllByRecursion (IsBehind mark) result.now }
+    ensures unmerged { (plan : StreamPlan) (marks : Marks) → filter (is_unmerged plan marks mark) result.now ≡ filter (is_unmerged plan marks mark) rows.now }
+{
+    &rows[count_up_to(rows, mark)..]
+}
+
+/// The next rows of a table that the load's side has not merged, at most so many. Only rows behind the side's mark are
+/// looked at, which are found in logarithmic time.
 pub fn page(
     alloc: Global,
     plan: &StreamPlan,
     table: &StreamTable,
     most: usize,
 ) -> Result<Unmerged, NoMemory>
+    requires { PlacesRise table.now.rows }
     ensures { IfOk result (λ page. page ≡ page_in plan.now table.now most) }
 {
     let from = side(plan, table).mark;
     let mut rows = RawRowList::new(alloc);
     let mut mark = from;
-    for placed in table.rows.as_slice() {
+    for placed in rows_behind(table.rows.as_slice(), from) {
         if is_next(plan, &table.marks, from, placed) {
             if rows.len() >= most {
                 return Ok(Unmerged {
@@ -109,6 +134,7 @@ pub fn read_page(
     stream: StreamNo,
     most: usize,
 ) -> Result<Unmerged, NoMemory>
+    requires { TablesRise tables.now }
     ensures { IfOk result (λ page. page ≡ page_of tables.now stream most) }
 {
     if let Some(plan) = tables.plan.as_slice().get(stream as usize) {

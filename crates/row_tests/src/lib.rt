@@ -8,6 +8,8 @@ mod decimals;
 #[cfg(test)]
 mod order;
 #[cfg(test)]
+mod rows;
+#[cfg(test)]
 mod texts;
 #[cfg(test)]
 mod typed;

@@ -18,6 +18,8 @@ mod outsides;
 #[cfg(test)]
 mod pieces;
 #[cfg(test)]
+mod reading;
+#[cfg(test)]
 mod records;
 #[cfg(test)]
 mod spans;

@@ -1,57 +1,74 @@
 // The values that the other crates share, with memory at hand.
-use outside::{Boxed, Bytes, Name, Sequence, Status};
+use basics::{Boxed, Bytes, Name, NoMemory, Sequence};
+use std::alloc::Global;
 use std::test::Fail;
 
-#[test]
-fn sequences_grow(rt: HostRuntime) -> Result<(), Fail> {
-    let alloc = rt.alloc();
+// A text that grew by a byte, and by more bytes.
+fn grown_text(alloc: Global) -> Result<Bytes, Fail> {
     let mut bytes = Bytes::copy_of(alloc, b"ab")?;
     bytes.push(b'c')?;
     bytes.append(vec![in alloc; b'd', b'e']?)?;
-    assert_eq!(rt; bytes.as_slice(), b"abcde".as_slice());
-    assert_eq!(rt; bytes.len(), 5);
-    assert!(rt; !bytes.is_empty());
+    Ok(bytes)
+}
+
+// The numbers below this one.
+fn counted(alloc: Global, end: u64) -> Result<Sequence<u64>, NoMemory> {
     let mut numbers: Sequence<u64> = Sequence::with_capacity(alloc, 2)?;
-    assert!(rt; numbers.is_empty());
-    for number in 0..3 {
+    for number in 0..end {
         numbers.push(number)?;
     }
-    assert_eq!(rt; numbers.into_vec().as_slice(), [0, 1, 2].as_slice());
-    let text = Bytes::from_string(String::from_str(alloc, "Zoë")?);
-    assert_eq!(rt; text.as_slice(), b"\x5a\x6f\xc3\xab".as_slice());
+    Ok(numbers)
+}
+
+#[test]
+fn sequences_grow(rt: HostRuntime) -> Result<(), Fail> {
+    let bytes = grown_text(rt.alloc())?;
+    assert!(rt; bytes.as_slice() == b"abcde".as_slice());
+    assert!(rt; bytes.len() == 5 && !bytes.is_empty());
+    assert!(rt; counted(rt.alloc(), 0)?.is_empty());
+    assert!(rt; counted(rt.alloc(), 3)?.into_vec().as_slice() == [0, 1, 2].as_slice());
     Ok(())
+}
+
+// A list that grew by an item, and by more items.
+fn grown_list(alloc: Global) -> Result<Sequence<u64>, Fail> {
+    let mut list: Sequence<u64> = Sequence::with_capacity(alloc, 1)?;
+    list.push(3)?;
+    list.append(Vec::from_array(alloc, [4, 5])?)?;
+    Ok(list)
+}
+
+#[test]
+fn lists_grow(rt: HostRuntime) -> Result<(), Fail> {
+    let list = grown_list(rt.alloc())?;
+    assert_eq!(rt; list.len(), 3);
+    assert!(rt; list.as_slice() == [3, 4, 5].as_slice());
+    Ok(())
+}
+
+// Whether names hold what was put in.
+fn names_hold(alloc: Global) -> Result<bool, Fail> {
+    let copied = Name::copy_of(alloc, "Zoë")?;
+    let moved = Name::from_string(String::from_str(alloc, "")?);
+    Ok(copied.as_str() == "Zoë" && moved.as_str() == "")
+}
+
+// Whether the bytes of a string are those of its UTF-8.
+fn bytes_hold(alloc: Global) -> Result<bool, Fail> {
+    let text = Bytes::from_string(String::from_str(alloc, "Zoë")?);
+    let want = b"\x5a\x6f\xc3\xab".as_slice();
+    Ok(text.as_slice() == want && text.into_vec().as_slice() == want)
+}
+
+// Whether a box holds what was put in.
+fn box_holds(alloc: Global) -> Result<bool, NoMemory> {
+    Ok(*Boxed::new(alloc, 7)?.get() == 7)
 }
 
 #[test]
 fn names_and_boxes_hold_what_was_put_in(rt: HostRuntime) -> Result<(), Fail> {
-    assert_eq!(rt; Name::copy_of(rt.alloc(), "Zoë")?.as_str(), "Zoë");
-    assert_eq!(rt;
-        Name::from_string(String::from_str(rt.alloc(), "")?).as_str(),
-        ""
-    );
-    assert_eq!(rt; *Boxed::new(rt.alloc(), 7)?.get(), 7);
-    Ok(())
-}
-
-#[test]
-fn a_status_has_a_number_and_words(rt: HostRuntime) -> Result<(), Fail> {
-    for (status, number, words) in [
-        (Status::Ok, 0, "0 Ok"),
-        (Status::Usage, 2, "2 Usage"),
-        (Status::FileFault, 13, "13 FileFault"),
-        (Status::SayFault, 42, "42 SayFault"),
-        (Status::Unbuilt { line: 0 }, 60, "60 Unbuilt line 0"),
-        (
-            Status::Unbuilt {
-                line: 18_446_744_073_709_551_615,
-            },
-            60,
-            "60 Unbuilt line 18446744073709551615",
-        ),
-        (Status::NoMemory, 70, "70 NoMemory"),
-    ] {
-        assert_eq!(rt; status.number(), number, "of {words}");
-        assert_eq!(rt; status.text(rt.alloc())?.as_slice(), words.as_bytes());
-    }
+    assert!(rt; names_hold(rt.alloc())?, "names");
+    assert!(rt; bytes_hold(rt.alloc())?, "bytes");
+    assert!(rt; box_holds(rt.alloc())?, "a box");
     Ok(())
 }

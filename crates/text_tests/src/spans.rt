@@ -3,17 +3,67 @@ use json_span::{MAX_DEPTH, Member, Span, SpanFault, members, members_within};
 use std::alloc::{AllocError, Global};
 use std::test::Fail;
 
-fn member(key_start: u64, key_end: u64, value_start: u64, value_end: u64) -> Member {
-    Member {
-        key: Span {
-            start: key_start,
-            end: key_end,
-        },
-        value: Span {
-            start: value_start,
-            end: value_end,
-        },
+// The places of a member: where its key starts and ends, and where its value does.
+type Places = (u64, u64, u64, u64);
+
+const MEMBERS: &[(&str, &[Places])] = &[
+    (
+        r#"{"a": [1, 2],"b":null}"#,
+        &[(1, 4, 6, 12), (13, 16, 17, 21)],
+    ),
+    (
+        r#" {"a":1 , "a" : {"a":2}} "#,
+        &[(2, 5, 6, 7), (10, 13, 16, 23)],
+    ),
+    ("{ }", &[]),
+];
+
+// Whether a member stands at these places.
+fn is_at(member: &Member, places: Places) -> bool {
+    let (key_start, key_end, value_start, value_end) = places;
+    let key = Span {
+        start: key_start,
+        end: key_end,
+    };
+    let value = Span {
+        start: value_start,
+        end: value_end,
+    };
+    member.key == key && member.value == value
+}
+
+// Whether the members of a text stand at these places.
+fn are_at(alloc: Global, text: &str, want: &[Places]) -> Result<bool, SpanFault> {
+    let cut = members(alloc, text.as_bytes())?;
+    let mut pairs = cut.as_slice().iter().zip(want);
+    Ok(cut.len() == want.len() && pairs.all(|(member, places)| is_at(member, *places)))
+}
+
+#[test]
+fn members_stand_at_their_places(rt: HostRuntime) -> Result<(), Fail> {
+    for (text, places) in MEMBERS {
+        assert!(rt; are_at(rt.alloc(), text, places)?, "in {text}");
     }
+    assert!(rt; matches!(members(rt.alloc(), b"[]"), Err(SpanFault::NotObject)));
+    Ok(())
+}
+
+// Where the value of the first member stands.
+fn first_value(alloc: Global, text: &[u8]) -> Result<Option<Span>, SpanFault> {
+    let cut = members(alloc, text)?;
+    if cut.is_empty() {
+        return Ok(None);
+    }
+    Ok(Some(cut.at(0).value))
+}
+
+#[test]
+fn a_place_gives_its_text(rt: HostRuntime) -> Result<(), Fail> {
+    let text = b"{\"a\": [1, 2],\"b\":null}";
+    let place = Span { start: 6, end: 12 };
+    assert!(rt; first_value(rt.alloc(), text)? == Some(place));
+    assert!(rt; place.of(text) == b"[1, 2]".as_slice());
+    Ok(())
 }
 
 // An object that nests so deep, of objects alone, or of arrays in one object.
@@ -37,94 +87,61 @@ fn nested(
     Ok(text)
 }
 
-#[test]
-fn members_stand_at_their_places(rt: HostRuntime) -> Result<(), Fail> {
-    let cut = members(rt.alloc(), b"{\"a\": [1, 2],\"b\":null}")?;
-    assert_eq!(rt;
-        cut.as_slice(),
-        [member(1, 4, 6, 12), member(13, 16, 17, 21)].as_slice()
-    );
-    let twice = members(rt.alloc(), b" {\"a\":1 , \"a\" : {\"a\":2}} ")?;
-    assert_eq!(rt;
-        twice.as_slice(),
-        [member(2, 5, 6, 7), member(10, 13, 16, 23)].as_slice()
-    );
-    let empty = members(rt.alloc(), b"{ }")?;
-    assert_eq!(rt; empty.len(), 0);
-    assert_eq!(rt;
-        members(rt.alloc(), b"[]").err(),
-        Some(SpanFault::NotObject)
-    );
-    Ok(())
-}
+const NESTED: &[(usize, usize, Option<SpanFault>)] = &[
+    (2, MAX_DEPTH, None),
+    (126, MAX_DEPTH, None),
+    (127, MAX_DEPTH, None),
+    (128, MAX_DEPTH, Some(SpanFault::TooDeep)),
+    (129, MAX_DEPTH, Some(SpanFault::TooDeep)),
+    (1000, MAX_DEPTH, Some(SpanFault::TooDeep)),
+    (124, 124, None),
+    (125, 124, Some(SpanFault::TooDeep)),
+    (124, 123, Some(SpanFault::TooDeep)),
+    (125, 125, None),
+    (128, 128, None),
+    (2, 1, Some(SpanFault::TooDeep)),
+    (2, 0, Some(SpanFault::TooDeep)),
+];
 
-#[test]
-fn a_place_gives_its_text(rt: HostRuntime) -> Result<(), Fail> {
-    let text = b"{\"a\": [1, 2],\"b\":null}";
-    let cut = members(rt.alloc(), text)?;
-    assert_eq!(rt; cut.len(), 2);
-    assert_eq!(rt; cut.at(0).value, Span { start: 6, end: 12 });
-    let place = Span { start: 6, end: 12 };
-    assert_eq!(rt; place.of(text), b"[1, 2]".as_slice());
-    Ok(())
+// Whether a text of this depth, cut within the limit, has this fault; within `MAX_DEPTH`, `members` has it too.
+fn has_fault(alloc: Global, text: &[u8], limit: usize, fault: Option<SpanFault>) -> bool {
+    let within = members_within(alloc, text, limit).err() == fault;
+    within && (limit != MAX_DEPTH || members(alloc, text).err() == fault)
 }
 
 #[test]
 fn an_object_that_nests_127_deep_is_cut(rt: HostRuntime) -> Result<(), Fail> {
-    for (deep, limit, fault) in [
-        (2, MAX_DEPTH, None),
-        (126, MAX_DEPTH, None),
-        (127, MAX_DEPTH, None),
-        (128, MAX_DEPTH, Some(SpanFault::TooDeep)),
-        (129, MAX_DEPTH, Some(SpanFault::TooDeep)),
-        (1000, MAX_DEPTH, Some(SpanFault::TooDeep)),
-        (124, 124, None),
-        (125, 124, Some(SpanFault::TooDeep)),
-        (124, 123, Some(SpanFault::TooDeep)),
-        (125, 125, None),
-        (128, 128, None),
-        (2, 1, Some(SpanFault::TooDeep)),
-        (2, 0, Some(SpanFault::TooDeep)),
-    ] {
-        let alloc = rt.alloc();
-        let objects = nested(alloc, deep, "{\"a\":", "{}", b'}')?;
-        assert_eq!(rt;
-            members_within(alloc, objects.as_slice(), limit).err(),
-            fault,
-            "objects, {deep} within {limit}"
-        );
-        let arrays = nested(alloc, deep, "[", "[]", b']')?;
-        assert_eq!(rt;
-            members_within(alloc, arrays.as_slice(), limit).err(),
-            fault,
-            "arrays, {deep} within {limit}"
-        );
-        if limit == MAX_DEPTH {
-            assert_eq!(rt;
-                members(alloc, objects.as_slice()).err(),
-                fault,
-                "objects, {deep}"
-            );
-        }
+    for (deep, limit, fault) in NESTED {
+        let objects = nested(rt.alloc(), *deep, "{\"a\":", "{}", b'}')?;
+        let cut = has_fault(rt.alloc(), objects.as_slice(), *limit, *fault);
+        assert!(rt; cut, "objects, {deep} within {limit}");
     }
     Ok(())
 }
 
 #[test]
+fn arrays_in_an_object_count_for_its_depth(rt: HostRuntime) -> Result<(), Fail> {
+    for (deep, limit, fault) in NESTED {
+        let arrays = nested(rt.alloc(), *deep, "[", "[]", b']')?;
+        let cut = has_fault(rt.alloc(), arrays.as_slice(), *limit, *fault);
+        assert!(rt; cut, "arrays, {deep} within {limit}");
+    }
+    Ok(())
+}
+
+// Whether a text that lacks its last bracket is no object, with that bracket behind it and without.
+fn is_none(alloc: Global, deep: usize) -> Result<bool, AllocError> {
+    let mut text = nested(alloc, deep, "[", "[", b']')?;
+    let short = members(alloc, text.as_slice()).err();
+    text.push(b'}')?;
+    let long = members(alloc, text.as_slice()).err();
+    Ok(short == Some(SpanFault::NotObject) && long == Some(SpanFault::NotObject))
+}
+
+#[test]
 fn a_broken_object_is_no_object_however_deep(rt: HostRuntime) -> Result<(), Fail> {
     for deep in [127, 128, 1000] {
-        let mut text = nested(rt.alloc(), deep, "[", "[", b']')?;
-        assert_eq!(rt;
-            members(rt.alloc(), text.as_slice()).err(),
-            Some(SpanFault::NotObject),
-            "{deep}"
-        );
-        text.push(b'}')?;
-        assert_eq!(rt;
-            members(rt.alloc(), text.as_slice()).err(),
-            Some(SpanFault::NotObject),
-            "{deep}"
-        );
+        assert!(rt; is_none(rt.alloc(), deep)?, "{deep}");
     }
     Ok(())
 }

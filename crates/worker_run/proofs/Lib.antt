@@ -8,3 +8,4 @@ pub mod OutputLemmas
 pub mod OneReading
 pub mod SayLemmas
 pub mod RunLemmas
+pub mod FaultLemmas

@@ -24,7 +24,8 @@ use Rattle.worker_run.specs.Store.{store_text}
 use Rattle.worker_run.specs.World.{World, row_of, stream_plan, attempt_plan, first_events, taken_events, all_taken_events, last_events, record_events, state_events}
 use Rattle.worker_run.specs.EventParts.{read_line, given_line, got_line, rows_of}
 use Rattle.worker_run.specs.Reached.{IsReached, ending_events}
-use Rattle.worker_run.specs.SafeSync.{attempt_after, attempt, found_text, PassesKind, PassesTrace, Passes, ArePassed, GivesPassed, ReadState, states_behind, Takes, Covers, StartsSafely, SavesNothing, SavesTaken, IsSafeSoFar, IsSafeSync}
+use Rattle.airbyte_message.specs.Lanes.{Covers}
+use Rattle.worker_run.specs.SafeSync.{attempt_after, attempt, found_text, PassesKind, PassesTrace, Passes, ArePassed, GivesPassed, ReadState, states_behind, Takes, StartsSafely, SavesNothing, SavesTaken, IsSafeSoFar, IsSafeSync}
 use Rattle.worker_run.proofs.ReadingLemmas.{counted_through-more, AreTaken-more, all_taken_events-more}
 
 -- lists that end in one element more

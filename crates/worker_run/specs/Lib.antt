@@ -5,6 +5,7 @@ pub mod TakenLines
 pub mod Store
 pub mod World
 pub mod EventParts
+pub mod Faults
 pub mod Ends
 pub mod Output
 pub mod Steps

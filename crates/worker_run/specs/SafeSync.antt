@@ -7,6 +7,7 @@ use Rattle.outside.specs.declared.event.Event.TheVariants.{Started, Saved}
 use Rattle.outside.specs.declared.event.AttemptPlan.{AttemptPlan}
 use Rattle.airbyte_message.specs.Messages.{IsMessage}
 use Rattle.airbyte_message.specs.Echo.{IsEcho}
+use Rattle.airbyte_message.specs.Lanes.{Covers}
 use Rattle.airbyte_message.specs.declared.message.Message.{Message}
 use Rattle.airbyte_message.specs.declared.message.Message.TheVariants as message
 use Rattle.airbyte_message.specs.declared.message.RecordMsg.{RecordMsg}
@@ -20,15 +21,6 @@ use Rattle.worker_run.specs.TakenLines.{FoundLine, IsOfStream}
 use Rattle.worker_run.specs.Store.{store_text, states_text}
 use Rattle.worker_run.specs.World.{row_of}
 use Rattle.worker_run.specs.EventParts.{read_line, given_line, got_line, saved_text, rows_of}
-
--- a state covers the records of its lane: those of its stream, or of all streams
-abbrev pub KindCovers : StateKind → RecordMsg → Type 0
-KindCovers (kind.Stream id blob) content = content.id ≡ id
-KindCovers (kind.Global shared streams) content = Unit {0}
-KindCovers kind.Legacy content = ⊥
-
-abbrev pub Covers : StateMsg → RecordMsg → Type 0
-Covers state content = KindCovers state.kind content
 
 -- a message that is passed on: a record, a state or a status of the stream, or a state of all streams
 abbrev pub PassesKind : List ℕ → StateKind → Type 0

@@ -77,7 +77,7 @@ pub fn state_events(
     let given = Event::Given(Bytes::copy_of(alloc, line)?);
     let taken = Event::Took(Bytes::copy_of(alloc, line)?);
     let got = Event::Got(Bytes::copy_of(alloc, echo.as_slice())?);
-    let text = store_text(alloc, stream.as_str(), Some(state.object.as_slice()))?;
+    let text = store_text(alloc, stream.as_str(), Some(state.object().as_slice()))?;
     let emitted = Event::Emitted(echo);
     Ok(Vec::from_array(
         alloc,

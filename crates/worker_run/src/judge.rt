@@ -36,10 +36,10 @@ fn is_of_stream(id: &StreamId, stream: &Name) -> bool
 fn is_taken(state: &StateMsg, stream: &Name, since: u64) -> bool
     ensures { IsTrue result ↔ IsTakenState stream.now since state.now }
 {
-    let StateKind::Stream { id, .. } = &state.kind else {
+    let StateKind::Stream { id, .. } = state.kind() else {
         return false;
     };
-    let is_counted = match state.source_count {
+    let is_counted = match state.source_count() {
         Some(count) => count == since,
         None => true,
     };

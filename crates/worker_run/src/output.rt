@@ -1,9 +1,10 @@
 // The worker says its lines.
 ghost use Rattle.std.specs.Prelude.{◌≡◌, ◌++◌, ◌∷◌, [], option_to_list, OnOk, IsErrOf};
 ghost use Rattle.worker_run.specs.EventParts.{rows_of};
-ghost use Rattle.worker_run.specs.Output.{usage_line, saved_line, attempt_line, status_line, table_line as table_line_of, table_lines, table_at, end_lines, body_lines, committed_lines};
+ghost use Rattle.worker_run.specs.Output.{usage_line, saved_line, attempt_line, status_line, table_line as table_line_of, table_lines, table_at, end_lines, row_line, body_lines, committed_lines};
 ghost use Rattle.outside.specs.Status.{status_text};
 ghost use Rattle.outside.specs.Desk.{SaidLines, SaidFront};
+ghost use Rattle.outside.specs.FaultCounts.{StaysUnlessFailed};
 
 use crate::PlainWorld;
 use crate::end::End;
@@ -20,6 +21,7 @@ pub fn say_joined<K: Desk>(
 ) -> Result<(), Fault>
     ensures ok { OnOk result (SaidLines ((front.now ++ back.now) ∷ []) (K.seen desk.old) (K.seen desk.new)) }
     ensures front { SaidFront (IsErrOf result Fault.Failed) ((front.now ++ back.now) ∷ []) (K.seen desk.old) (K.seen desk.new) }
+    ensures stays { StaysUnlessFailed result (K.seen desk.old).say_faults (K.seen desk.new).say_faults }
 {
     let line = joined(alloc, front, back)?;
     desk.say(line.as_slice())
@@ -29,6 +31,7 @@ pub fn say_joined<K: Desk>(
 fn say_text<K: Desk>(desk: &mut K, text: &str) -> Result<(), Fault>
     ensures ok { OnOk result (SaidLines (text.now ∷ []) (K.seen desk.old) (K.seen desk.new)) }
     ensures front { SaidFront (IsErrOf result Fault.Failed) (text.now ∷ []) (K.seen desk.old) (K.seen desk.new) }
+    ensures stays { StaysUnlessFailed result (K.seen desk.old).say_faults (K.seen desk.new).say_faults }
 {
     desk.say(text.as_bytes())
 }
@@ -37,6 +40,7 @@ fn say_text<K: Desk>(desk: &mut K, text: &str) -> Result<(), Fault>
 pub fn say_usage<K: Desk>(desk: &mut K) -> Result<(), Fault>
     ensures ok { OnOk result (SaidLines (usage_line ∷ []) (K.seen desk.old) (K.seen desk.new)) }
     ensures front { SaidFront (IsErrOf result Fault.Failed) (usage_line ∷ []) (K.seen desk.old) (K.seen desk.new) }
+    ensures stays { StaysUnlessFailed result (K.seen desk.old).say_faults (K.seen desk.new).say_faults }
 {
     say_text(desk, "usage: airbyte_worker local --messages F --catalog F")
 }
@@ -45,6 +49,7 @@ pub fn say_usage<K: Desk>(desk: &mut K) -> Result<(), Fault>
 pub fn say_saved<K: Desk>(alloc: Global, desk: &mut K, object: &[u8]) -> Result<(), Fault>
     ensures ok { OnOk result (SaidLines (saved_line object.now ∷ []) (K.seen desk.old) (K.seen desk.new)) }
     ensures front { SaidFront (IsErrOf result Fault.Failed) (saved_line object.now ∷ []) (K.seen desk.old) (K.seen desk.new) }
+    ensures stays { StaysUnlessFailed result (K.seen desk.old).say_faults (K.seen desk.new).say_faults }
 {
     say_joined(alloc, desk, b"saved ", object)
 }
@@ -53,6 +58,7 @@ pub fn say_saved<K: Desk>(alloc: Global, desk: &mut K, object: &[u8]) -> Result<
 pub fn say_other<K: Desk>(desk: &mut K, said: Option<Bytes>) -> Result<(), Fault>
     ensures ok { OnOk result (SaidLines (option_to_list said) (K.seen desk.old) (K.seen desk.new)) }
     ensures front { SaidFront (IsErrOf result Fault.Failed) (option_to_list said) (K.seen desk.old) (K.seen desk.new) }
+    ensures stays { StaysUnlessFailed result (K.seen desk.old).say_faults (K.seen desk.new).say_faults }
 {
     match said {
         Some(line) => desk.say(line.as_slice()),
@@ -69,6 +75,7 @@ fn say_ending<K: Desk>(
 ) -> Result<(), Fault>
     ensures ok { OnOk result (SaidLines ((front.now ++ status_text status) ∷ []) (K.seen desk.old) (K.seen desk.new)) }
     ensures front { SaidFront (IsErrOf result Fault.Failed) ((front.now ++ status_text status) ∷ []) (K.seen desk.old) (K.seen desk.new) }
+    ensures stays { StaysUnlessFailed result (K.seen desk.old).say_faults (K.seen desk.new).say_faults }
 {
     let text = status.text(alloc)?;
     say_joined(alloc, desk, front, text.as_slice())
@@ -78,6 +85,7 @@ fn say_ending<K: Desk>(
 fn say_attempt<K: Desk>(alloc: Global, desk: &mut K, status: Status) -> Result<(), Fault>
     ensures ok { OnOk result (SaidLines (attempt_line status ∷ []) (K.seen desk.old) (K.seen desk.new)) }
     ensures front { SaidFront (IsErrOf result Fault.Failed) (attempt_line status ∷ []) (K.seen desk.old) (K.seen desk.new) }
+    ensures stays { StaysUnlessFailed result (K.seen desk.old).say_faults (K.seen desk.new).say_faults }
 {
     say_ending(alloc, desk, b"attempt 1: ", status)
 }
@@ -86,6 +94,7 @@ fn say_attempt<K: Desk>(alloc: Global, desk: &mut K, status: Status) -> Result<(
 pub fn say_status<K: Desk>(alloc: Global, desk: &mut K, status: Status) -> Result<(), Fault>
     ensures ok { OnOk result (SaidLines (status_line status ∷ []) (K.seen desk.old) (K.seen desk.new)) }
     ensures front { SaidFront (IsErrOf result Fault.Failed) (status_line status ∷ []) (K.seen desk.old) (K.seen desk.new) }
+    ensures stays { StaysUnlessFailed result (K.seen desk.old).say_faults (K.seen desk.new).say_faults }
 {
     say_ending(alloc, desk, b"status ", status)
 }
@@ -94,6 +103,7 @@ pub fn say_status<K: Desk>(alloc: Global, desk: &mut K, status: Status) -> Resul
 fn say_table<K: Desk>(alloc: Global, desk: &mut K, stream: &Name, rows: u64) -> Result<(), Fault>
     ensures ok { OnOk result (SaidLines (table_line_of stream.now rows ∷ []) (K.seen desk.old) (K.seen desk.new)) }
     ensures front { SaidFront (IsErrOf result Fault.Failed) (table_line_of stream.now rows ∷ []) (K.seen desk.old) (K.seen desk.new) }
+    ensures stays { StaysUnlessFailed result (K.seen desk.old).say_faults (K.seen desk.new).say_faults }
 {
     let line = table_line(alloc, stream, rows)?;
     desk.say(line.as_slice())
@@ -109,13 +119,25 @@ fn rows_in(event: &Event) -> &[RawRow]
     }
 }
 
+// Says the body of a row, by a line whose memory is kept.
+fn say_row<K: Desk>(line: &mut Bytes, desk: &mut K, body: &[u8]) -> Result<(), Fault>
+    ensures ok { OnOk result (SaidLines (row_line body.now ∷ []) (K.seen desk.old) (K.seen desk.new)) }
+    ensures front { SaidFront (IsErrOf result Fault.Failed) (row_line body.now ∷ []) (K.seen desk.old) (K.seen desk.new) }
+{
+    line.clear();
+    line.extend(b"row ")?;
+    line.extend(body)?;
+    desk.say(line.as_slice())
+}
+
 // Says the bodies of rows.
-fn say_bodies<K: Desk>(alloc: Global, desk: &mut K, rows: &[RawRow]) -> Result<(), Fault>
+fn say_bodies<K: Desk>(line: &mut Bytes, desk: &mut K, rows: &[RawRow]) -> Result<(), Fault>
     ensures ok { OnOk result (SaidLines (body_lines rows.now) (K.seen desk.old) (K.seen desk.new)) }
     ensures front { SaidFront (IsErrOf result Fault.Failed) (body_lines rows.now) (K.seen desk.old) (K.seen desk.new) }
+    ensures stays { StaysUnlessFailed result (K.seen desk.old).say_faults (K.seen desk.new).say_faults }
 {
     for row in rows {
-        say_joined(alloc, desk, b"row ", row.body.as_slice())?;
+        say_row(line, desk, row.body.as_slice())?;
     }
     Ok(())
 }
@@ -124,9 +146,11 @@ fn say_bodies<K: Desk>(alloc: Global, desk: &mut K, rows: &[RawRow]) -> Result<(
 fn say_committed<K: Desk>(alloc: Global, desk: &mut K, events: &[Event]) -> Result<(), Fault>
     ensures ok { OnOk result (SaidLines (committed_lines events.now) (K.seen desk.old) (K.seen desk.new)) }
     ensures front { SaidFront (IsErrOf result Fault.Failed) (committed_lines events.now) (K.seen desk.old) (K.seen desk.new) }
+    ensures stays { StaysUnlessFailed result (K.seen desk.old).say_faults (K.seen desk.new).say_faults }
 {
+    let mut line = Bytes::new(alloc);
     for event in events {
-        say_bodies(alloc, desk, rows_in(event))?;
+        say_bodies(&mut line, desk, rows_in(event))?;
     }
     Ok(())
 }
@@ -135,6 +159,7 @@ fn say_committed<K: Desk>(alloc: Global, desk: &mut K, events: &[Event]) -> Resu
 fn say_rows<K: Desk>(alloc: Global, desk: &mut K, world: &PlainWorld) -> Result<(), Fault>
     ensures ok { OnOk result (SaidLines (table_lines world.now.stream (committed_lines world.now.events)) (K.seen desk.old) (K.seen desk.new)) }
     ensures front { SaidFront (IsErrOf result Fault.Failed) (table_lines world.now.stream (committed_lines world.now.events)) (K.seen desk.old) (K.seen desk.new) }
+    ensures stays { StaysUnlessFailed result (K.seen desk.old).say_faults (K.seen desk.new).say_faults }
 {
     say_table(alloc, desk, world.stream(), world.records())?;
     say_committed(alloc, desk, world.events().as_slice())
@@ -149,6 +174,7 @@ fn say_table_at<K: Desk>(
 ) -> Result<(), Fault>
     ensures ok { OnOk result (SaidLines (table_at world.now.stream (committed_lines world.now.events) end) (K.seen desk.old) (K.seen desk.new)) }
     ensures front { SaidFront (IsErrOf result Fault.Failed) (table_at world.now.stream (committed_lines world.now.events) end) (K.seen desk.old) (K.seen desk.new) }
+    ensures stays { StaysUnlessFailed result (K.seen desk.old).say_faults (K.seen desk.new).say_faults }
 {
     match end {
         End::Ok => say_rows(alloc, desk, world),
@@ -165,6 +191,7 @@ pub fn say_end<K: Desk>(
 ) -> Result<(), Fault>
     ensures ok { OnOk result (SaidLines (end_lines world.now.stream (committed_lines world.now.events) end) (K.seen desk.old) (K.seen desk.new)) }
     ensures front { SaidFront (IsErrOf result Fault.Failed) (end_lines world.now.stream (committed_lines world.now.events) end) (K.seen desk.old) (K.seen desk.new) }
+    ensures stays { StaysUnlessFailed result (K.seen desk.old).say_faults (K.seen desk.new).say_faults }
 {
     say_attempt(alloc, desk, end.status())?;
     say_table_at(alloc, desk, world, end)

@@ -150,7 +150,7 @@ impl PlainWorld {
         let echo = echo_of(alloc, &state, since)?;
         let more = state_events(alloc, line, stream, &state, echo)?;
         events.append(more)?;
-        Ok(state.object.into_bytes())
+        Ok(state.into_object().into_bytes())
     }
 
     // Takes the next line.

@@ -1,7 +1,9 @@
 // The worker's top call.
-ghost use Rattle.std.specs.Prelude.{◌≡◌, None, Some, IfNone, IsSome, map, string_bytes, IfOk, OnErr, IsErrOf};
+ghost use Rattle.std.specs.Prelude.{◌≡◌, ◌≢◌, None, Some, IfNone, IsSome, map, string_bytes, IfOk, OnErr, IsErrOf};
 ghost use Rattle.basics.specs.Told.{Rose, RoseIf};
 ghost use Rattle.outside.specs.Desk.{SaysOnly};
+ghost use Rattle.outside.specs.FaultCounts.{StaysUnlessFailed};
+ghost use Rattle.worker_run.specs.Faults.{StaysUnlessSayFault};
 ghost use Rattle.worker_run.specs.Reading.{Reads, ReadsSome, Attempted, StopsShort, SaysBody, SaysLast, EndsAtFault, WritesOut, Says, EndsWithoutCommand, EndsAndSays, IsOnlyEnd, EndsWithStatus, NothingUnbuilt, IsOkOrNoMemory, IsReadFault, IsSayFault, IsUsageEnd};
 ghost use Rattle.worker_run.specs.Words.{asked as asked_of};
 
@@ -38,6 +40,7 @@ fn take_lines<K: Desk>(alloc: Global, desk: &mut K, world: &mut PlainWorld) -> R
     ensures lines { IfOk result (λ end. Reads world.old world.new end (K.seen desk.old).said (K.seen desk.new).said) }
     ensures fault { OnErr result (ReadsSome world.old (K.seen desk.old).said (K.seen desk.new).said) }
     ensures only { SaysOnly (IsErrOf result Fault.Failed) (K.seen desk.old) (K.seen desk.new) }
+    ensures stays { StaysUnlessFailed result (K.seen desk.old).say_faults (K.seen desk.new).say_faults }
 {
     'lines: for _ in 0..u64::MAX {
         match world.step()? {
@@ -61,6 +64,7 @@ fn run_attempt<K: Desk>(
     ensures attempt { IfOk result (λ end. Attempted messages stream end (K.seen desk.old).said (K.seen desk.new).said) }
     ensures fault { OnErr result (StopsShort messages stream (K.seen desk.old).said (K.seen desk.new).said) }
     ensures only { SaysOnly (IsErrOf result Fault.Failed) (K.seen desk.old) (K.seen desk.new) }
+    ensures stays { StaysUnlessFailed result (K.seen desk.old).say_faults (K.seen desk.new).say_faults }
 {
     let mut world = PlainWorld::new(alloc, messages, stream)?;
     let end = take_lines(alloc, desk, &mut world)?;
@@ -73,6 +77,7 @@ fn run_local<K: Desk>(alloc: Global, desk: &mut K, names: TextNames<'_>) -> End
     ensures says { SaysBody (K.seen desk.old).texts (Some (record { messages = names.entry.messages.now; catalog = names.entry.catalog.now })) result (K.seen desk.old).said (K.seen desk.new).said }
     ensures read_faults { RoseIf (result ≡ End.FileFault) (K.seen desk.old).read_faults (K.seen desk.new).read_faults }
     ensures say_faults { RoseIf (result ≡ End.SayFault) (K.seen desk.old).say_faults (K.seen desk.new).say_faults }
+    ensures stays { StaysUnlessSayFault result (K.seen desk.old).say_faults (K.seen desk.new).say_faults }
     ensures texts { (K.seen desk.new).texts ≡ (K.seen desk.old).texts }
 {
     let catalog = match desk.read_text(alloc, names.catalog) {
@@ -99,6 +104,7 @@ fn run_words<K: Desk>(alloc: Global, desk: &mut K, words: &[String]) -> End
     ensures says { SaysBody (K.seen desk.old).texts (asked_of (map string_bytes words.now)) result (K.seen desk.old).said (K.seen desk.new).said }
     ensures read_faults { RoseIf (result ≡ End.FileFault) (K.seen desk.old).read_faults (K.seen desk.new).read_faults }
     ensures say_faults { RoseIf (result ≡ End.SayFault) (K.seen desk.old).say_faults (K.seen desk.new).say_faults }
+    ensures stays { StaysUnlessSayFault result (K.seen desk.old).say_faults (K.seen desk.new).say_faults }
     ensures texts { (K.seen desk.new).texts ≡ (K.seen desk.old).texts }
     ensures other_words { IfNone (asked_of (map string_bytes words.now)) (EndsWithoutCommand result) }
 {
@@ -115,6 +121,7 @@ fn run_words<K: Desk>(alloc: Global, desk: &mut K, words: &[String]) -> End
 fn say_last<K: Desk>(alloc: Global, desk: &mut K, end: End) -> End
     ensures last { SaysLast end result (K.seen desk.old).said (K.seen desk.new).said }
     ensures only { SaysOnly (EndsAtFault end result) (K.seen desk.old) (K.seen desk.new) }
+    ensures stays { StaysUnlessSayFault result (K.seen desk.old).say_faults (K.seen desk.new).say_faults }
 {
     if matches!(end, End::SayFault | End::NoMemory) {
         return end;
@@ -130,6 +137,7 @@ fn write_out<K: Desk>(desk: &mut K, last: End) -> End
     ensures writes { WritesOut last result }
     ensures said { (K.seen desk.new).said ≡ (K.seen desk.old).said }
     ensures only { SaysOnly (EndsAtFault last result) (K.seen desk.old) (K.seen desk.new) }
+    ensures stays { StaysUnlessSayFault result (K.seen desk.old).say_faults (K.seen desk.new).say_faults }
 {
     match desk.flush() {
         Ok(()) => last,
@@ -143,6 +151,7 @@ fn run_to_end<K: Desk>(alloc: Global, desk: &mut K, words: &[String]) -> End
     ensures says { Says (K.seen desk.old).texts (asked_of (map string_bytes words.now)) (Rose (K.seen desk.old).read_faults (K.seen desk.new).read_faults) result (K.seen desk.old).said (K.seen desk.new).said }
     ensures read_faults { RoseIf (result ≡ End.FileFault) (K.seen desk.old).read_faults (K.seen desk.new).read_faults }
     ensures say_faults { RoseIf (result ≡ End.SayFault) (K.seen desk.old).say_faults (K.seen desk.new).say_faults }
+    ensures stays { StaysUnlessSayFault result (K.seen desk.old).say_faults (K.seen desk.new).say_faults }
     ensures texts { (K.seen desk.new).texts ≡ (K.seen desk.old).texts }
     ensures other_words { IfNone (asked_of (map string_bytes words.now)) (EndsWithoutCommand result) }
 {
@@ -164,6 +173,7 @@ pub fn run<K: Desk, L: Link>(alloc: Global, desk: &mut K, _link: &mut L, words: 
     ensures other_words { IfNone (asked_of (map string_bytes words.now)) (IsUsageEnd result) }
     ensures read_faults { RoseIf (result ≡ Status.FileFault) (K.seen desk.old).read_faults (K.seen desk.new).read_faults }
     ensures say_faults { RoseIf (result ≡ Status.SayFault) (K.seen desk.old).say_faults (K.seen desk.new).say_faults }
+    ensures stays { result ≢ Status.SayFault → (K.seen desk.new).say_faults ≡ (K.seen desk.old).say_faults }
     ensures complete { IsSome (asked_of (map string_bytes words.now)) → NothingUnbuilt (K.seen desk.old).texts (asked_of (map string_bytes words.now)) → ¬ Rose (K.seen desk.old).read_faults (K.seen desk.new).read_faults → ¬ Rose (K.seen desk.old).say_faults (K.seen desk.new).say_faults → IsOkOrNoMemory result }
     ensures texts { (K.seen desk.new).texts ≡ (K.seen desk.old).texts }
     ensures link { L.seen _link.new ≡ L.seen _link.old }

@@ -7,8 +7,9 @@ use Rattle.json_span.specs.declared.Member.{Member}
 use Rattle.json_fields.specs.Fields.{IsCut, line_depth}
 use Rattle.json_fields.specs.Words.{IsPlaceOf}
 use Rattle.json_fields.proofs.FieldLemmas.{field_answer}
+use Rattle.json_fields.proofs.PlaceLemmas.{cut_inside, field_at, inside_at}
 use Rattle.airbyte_message.specs.Views.{record_at}
-use Rattle.airbyte_message.proofs.ViewLemmas.{record_at_payload, record_absent, record_no_object, field_at, inside_at, cut_inside}
+use Rattle.airbyte_message.proofs.ViewLemmas.{record_at_payload, record_absent, record_no_object}
 use Rattle.airbyte_message.proofs.read.record_in_line.Goals as goal
 
 abbrev no_member : Member

@@ -22,6 +22,7 @@ returns-in_default-4 c = state_no_count c.args.text.now (along (HasStats c.args.
 pub returns : goal.returns
 returns c =
     let text = c.args.text.now in
+    let line = c.is_one_line.ensures.0 c.if-not-is_one_line.false in
     let cut = within state_depth text c.in_ok-members.field-0 c.in-Some.members c.in-Some.is c.in_ok-members.ensures.within in
     let typed = along (HasStateType text) c.in-Some-2.is c.in_ok-state_type.ensures in
-    along_only (IsState text) (ap (λ (o : List ℕ). state_msg o c.in-Some-3.kind c.in-Some-4.source_count) (sym (c.new.ensures ∙ c.in_ok-copy_of.ensures))) (state_answer text c.in-Some.members c.in-Some-2.state_type c.in-Some-3.kind c.in-Some-4.source_count cut typed (along (IsKind c.in-Some-2.state_type text) c.in-Some-3.is c.in_ok-kind.ensures) (along (HasStats text) c.in-Some-4.is c.in_ok-source_count.ensures))
+    along_only (IsState text) (ap (λ (o : List ℕ). state_msg o c.in-Some-3.kind c.in-Some-4.source_count) (sym (c.new-object.ensures ∙ c.in_ok-copy_of.ensures)) ∙ sym c.new.ensures) (state_answer text c.in-Some.members c.in-Some-2.state_type c.in-Some-3.kind c.in-Some-4.source_count line cut typed (along (IsKind c.in-Some-2.state_type text) c.in-Some-3.is c.in_ok-kind.ensures) (along (HasStats text) c.in-Some-4.is c.in_ok-source_count.ensures))

@@ -6,7 +6,7 @@ use Rattle.airbyte_message.proofs.trace_message.type_of.Goals as goal
 
 pub returns-in-Some : goal.returns-in-Some
 returns-in-Some c =
-    word_text trace_text c.args.text.now (codes "type") c.in-Some.name c.as_str.result.now c.trace_named.result (along (HasText c.args.text.now (codes "type")) c.in-Some.is c.in_ok-name.ensures) c.as_str.ensures c.trace_named.ensures
+    word_text trace_text c.args.text.now (codes "type") c.in-Some.name c.as_str.result.now c.of.result (along (HasText c.args.text.now (codes "type")) c.in-Some.is c.in_ok-name.ensures) c.as_str.ensures c.of.ensures
 
 pub returns-in-None : goal.returns-in-None
 returns-in-None c =

@@ -1,44 +1,20 @@
-use Rattle.std.proofs.Common.{ap, codes}
-use Rattle.std.specs.Option.{option_copied}
-use Rattle.json_fields.specs.Fields.{HasField, HasText, line_depth}
-use Rattle.json_fields.proofs.AnswerLemmas.{along, uncut}
-use Rattle.catalog.specs.Entry.{HasIds, HasOptionalList, IsPath, IsKey, IsStream}
-use Rattle.catalog.proofs.EntryLemmas.{entry_answer, entry_uncut, entry_no_field, entry_no_stream, entry_no_sync, entry_no_dest, entry_no_cursor, entry_no_key, entry_no_ids}
+use Rattle.std.proofs.Common.{Err, ap, arith, ◌<◌}
+use Rattle.catalog.proofs.EntryLemmas.{entry_uncut}
 use Rattle.catalog.proofs.members.entry_of.Goals as goal
 
-pub returns-in_default : goal.returns-in_default
-returns-in_default c = entry_uncut c.args.text.now (uncut line_depth c.args.text.now c.in_ok-members.field-0 c.in_default.is c.in_ok-members.ensures.none)
+pub entry_in-requires-clause-cut : goal.entry_in-requires-clause-cut
+entry_in-requires-clause-cut c = record {
+  are = c.in-Ok.ensures.found;
+  only = λ others are. (c.in-Ok.ensures.only are.deep others are.object).1;
+  parts = c.in-Ok.ensures.parts;
+}
 
-pub returns-in_default-2 : goal.returns-in_default-2
-returns-in_default-2 c = entry_no_field c.args.text.now (along (HasField c.args.text.now (codes "stream")) (ap option_copied c.in_default-2.is) c.in_ok-held.ensures.field)
+pub returns-in-Err-NotObject : goal.returns-in-Err-NotObject
+returns-in-Err-NotObject c =
+    let none = c.in-Err-NotObject.ensures.not_object (ap (λ e. Err e) c.in-Err-NotObject.field-0-is) in
+    entry_uncut c.args.text.now (λ members are. none are.deep members are.object)
 
-pub returns-in_default-3 : goal.returns-in_default-3
-returns-in_default-3 c =
-    entry_no_stream c.args.text.now c.in-Some-2.held.now (along (HasField c.args.text.now (codes "stream")) (ap option_copied c.in-Some-2.is) c.in_ok-held.ensures.field) (along (IsStream c.in-Some-2.held.now) c.in_default-3.is c.in_ok-stream.ensures)
-
-pub returns-in_default-4 : goal.returns-in_default-4
-returns-in_default-4 c = entry_no_sync c.args.text.now (along (HasText c.args.text.now (codes "sync_mode")) c.in_default-4.is c.in_ok-sync.ensures)
-
-pub returns-in_default-5 : goal.returns-in_default-5
-returns-in_default-5 c = entry_no_dest c.args.text.now (along (HasText c.args.text.now (codes "destination_sync_mode")) c.in_default-5.is c.in_ok-dest.ensures)
-
-pub returns-in_default-6 : goal.returns-in_default-6
-returns-in_default-6 c = entry_no_cursor c.args.text.now (along (HasOptionalList IsPath c.args.text.now (codes "cursor_field")) c.in_default-6.is c.in_ok-cursor.ensures)
-
-pub returns-in_default-7 : goal.returns-in_default-7
-returns-in_default-7 c = entry_no_key c.args.text.now (along (HasOptionalList IsKey c.args.text.now (codes "primary_key")) c.in_default-7.is c.in_ok-key.ensures)
-
-pub returns-in-Some-8 : goal.returns-in-Some-8
-returns-in-Some-8 c =
-    let text = c.args.text.now in
-    entry_answer text c.in-Some-2.held.now c.in-Some-3.stream c.in-Some-4.sync c.in-Some-5.dest c.in-Some-6.cursor c.in-Some-7.key c.in-Some-8.ids
-    (along (HasField text (codes "stream")) (ap option_copied c.in-Some-2.is) c.in_ok-held.ensures.field)
-    (along (IsStream c.in-Some-2.held.now) c.in-Some-3.is c.in_ok-stream.ensures)
-    (along (HasText text (codes "sync_mode")) c.in-Some-4.is c.in_ok-sync.ensures)
-    (along (HasText text (codes "destination_sync_mode")) c.in-Some-5.is c.in_ok-dest.ensures)
-    (along (HasOptionalList IsPath text (codes "cursor_field")) c.in-Some-6.is c.in_ok-cursor.ensures)
-    (along (HasOptionalList IsKey text (codes "primary_key")) c.in-Some-7.is c.in_ok-key.ensures)
-    (along (HasIds text) c.in-Some-8.is c.in_ok-ids.ensures)
-
-pub returns : goal.returns
-returns c = entry_no_ids c.args.text.now (along (HasIds c.args.text.now) c.in-None.is c.in_ok-ids.ensures)
+pub returns-in-Err-TooDeep : goal.returns-in-Err-TooDeep
+returns-in-Err-TooDeep c =
+    let deeper = c.in-Err-TooDeep.ensures.too_deep (ap (λ e. Err e) c.in-Err-TooDeep.field-0-is) in
+    entry_uncut c.args.text.now (λ members are. let beyond : 127 < are.deep = deeper.deeper are.deep members are.object in absurd (omega (arith, are.within)))

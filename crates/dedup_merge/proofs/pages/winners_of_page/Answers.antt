@@ -1,4 +1,4 @@
-use Rattle.std.proofs.Common.{◌≡◌, ◌+◌, List, [], ◌∷◌, ◌++◌, take, ap, sym, subst, arith}
+use Rattle.std.proofs.Common.{◌≡◌, ◌+◌, List, [], ◌∷◌, ◌++◌, take, sym, subst, arith}
 use Rattle.std.specs.Prelude.{IfSome}
 use Rattle.outside.specs.Dock.{tables, ReadAtMost}
 use Rattle.outside.specs.declared.event.RawRow.{RawRow}
@@ -37,4 +37,4 @@ pub returns-clause-winners : goal.returns-clause-winners
 returns-clause-winners g c =
     let side = side_of_store c.args.stream (tables (g.D.Dock.seen c.args.dock.now)) in
     let all = all_taken c.args.rows.now c.loop-row.row-index (omega arith) in
-    page_taken side c.args.rows.now c.loop-row.best c.in_ok-copied.field-0 c.loop-row.invariant.rise c.in_ok-copied.ensures (subst (λ (rs : List RawRow). IfSome side (λ before. BestSoFar before rs c.loop-row.best)) all c.loop-row.invariant.so_far)
+    page_taken side c.args.rows.now c.loop-row.best c.in_ok-into_rows.field-0 c.loop-row.invariant.rise c.in_ok-into_rows.ensures (subst (λ (rs : List RawRow). IfSome side (λ before. BestSoFar before rs c.loop-row.best)) all c.loop-row.invariant.so_far)

@@ -1,4 +1,4 @@
-use Rattle.std.proofs.Common.{◌≡◌, List, [], ◌∷◌, ◌++◌, take, filter, ap, sym, subst, arith}
+use Rattle.std.proofs.Common.{List, [], take, filter, sym, subst, arith}
 use Rattle.outside.specs.declared.event.RawRow.{RawRow}
 use Rattle.dedup_merge.specs.Winners.{has_key}
 use Rattle.dedup_merge.specs.Steps.{BestSoFar}

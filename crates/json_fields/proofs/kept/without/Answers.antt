@@ -1,10 +1,11 @@
 use Rattle.std.proofs.Common.{◌≡◌, List, ◌++◌, ◌∷◌, [], ◌<◌, ◌+◌, length, take, sym, subst, ◌∙◌, slice_index_or, All}
 use Rattle.std.proofs.lemmas.List.{take_all}
+use Rattle.json_scalar.specs.Text.{IsString}
 use Rattle.json_span.specs.declared.Member.{Member}
 use Rattle.json_span.specs.Members.{IsMemberOf}
 use Rattle.json_fields.specs.Parts.{Without}
 use Rattle.json_fields.proofs.AnswerLemmas.{true_false}
-use Rattle.json_fields.proofs.WithoutLemmas.{Without-step_dropped, Without-step_kept, Without-only, parts_more}
+use Rattle.json_fields.proofs.KeepsLemmas.{step_added, step_dropped, Without-only, parts_more}
 use Rattle.json_fields.proofs.kept.without.Goals as goal
 use Rattle.json_fields.proofs.kept.without.Goals.{then-not-branch+in_ok-push, else-not-branch}
 
@@ -25,13 +26,13 @@ loop-member-preserved c =
           let is = subst (λ (ms : List Member). IsMemberOf text (slice_index_or ms i no_member)) (sym whole) (c.requires.parts i no_member (subst (λ (ms : List Member). i < length ms) whole lt)) in
           let pushed : c.if-not-branch.kept ≡ c.loop-member.kept ++ m ∷ [] = w.kept-is ∙ w.in_ok-push.ensures.ok in
           record {
-            kept = subst (λ (kept : List Member). Without text name (take (i + 1) members) kept) (sym pushed) (Without-step_kept text name members i no_member c.of.result.now c.loop-member.kept lt c.of.ensures (λ named. true_false (sym (c.in_ok-is_string_of.ensures.1 named) ∙ w.if-not-branch.true)) c.loop-member.invariant.kept);
+            kept = subst (λ (kept : List Member). Without text name (take (i + 1) members) kept) (sym pushed) (step_added (λ key. IsString key name) text members i no_member c.of.result.now c.loop-member.kept lt c.of.ensures (λ named. true_false (sym (c.in_ok-is_string_of.ensures.1 named) ∙ w.if-not-branch.true)) c.loop-member.invariant.kept);
             parts = parts_more text c.loop-member.kept c.if-not-branch.kept m pushed is c.loop-member.invariant.parts;
           }
       | else-not-branch w ↦
           let same : c.loop-member.kept ≡ c.if-not-branch.kept = cc w.kept-is in
           record {
-            kept = subst (λ (kept : List Member). Without text name (take (i + 1) members) kept) same (Without-step_dropped text name members i no_member c.of.result.now c.loop-member.kept lt c.of.ensures (c.in_ok-is_string_of.ensures.0 w.if-not-branch.false) c.loop-member.invariant.kept);
+            kept = subst (λ (kept : List Member). Without text name (take (i + 1) members) kept) same (step_dropped (λ key. IsString key name) text members i no_member c.of.result.now c.loop-member.kept lt c.of.ensures (c.in_ok-is_string_of.ensures.0 w.if-not-branch.false) c.loop-member.invariant.kept);
             parts = subst (λ (kept : List Member). All (IsMemberOf text) kept) same c.loop-member.invariant.parts;
           }
     ]

@@ -1,4 +1,4 @@
-use Rattle.std.proofs.Common.{ℕ, Option, Some, None, subst}
+use Rattle.std.proofs.Common.{ℕ, Option, subst}
 use Rattle.json_span.specs.declared.Member.{Member}
 use Rattle.json_fields.specs.Words.{IsPlaceOf}
 use Rattle.json_fields.proofs.Keys.{value_at}

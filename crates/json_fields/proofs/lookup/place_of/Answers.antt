@@ -1,4 +1,5 @@
-use Rattle.std.proofs.Common.{◌≡◌, ◌<◌, ◌+◌, ◌-◌, ℕ, None, Some, length, drop, slice_index_or, refl, sym, subst, ◌∙◌, arith}
+use Rattle.std.proofs.Common.{◌≡◌, ◌<◌, ◌+◌, ◌-◌, ℕ, List, None, Some, length, drop, slice_index_or, refl, sym, subst, ◌∙◌, arith}
+use Rattle.json_scalar.specs.Text.{IsString}
 use Rattle.json_span.specs.declared.Member.{Member}
 use Rattle.json_span.specs.Members.{text_at}
 use Rattle.json_fields.specs.Fields.{Holds}
@@ -20,11 +21,14 @@ returns-then-branch c =
     let e : c.loop-left.left ≡ i + 1 = omega arith in
     let none = subst (λ (k : ℕ). Holds text name (drop k members) None) e c.loop-left.invariant.none in
     let m = slice_index_or members i no_member in
+    let named : IsString c.of.result.now name = c.in_ok-is_key.ensures.0 c.if-branch.true in
     record {
       member = m;
       below = lt;
       at = get_at members i no_member lt;
-      holds = only_holds text name members (Some (text_at text m.value)) (holds_found text name members i no_member c.of.result.now (text_at text m.value) lt c.of.ensures (c.in_ok-is_key.ensures.0 c.if-branch.true) refl none);
+      named = subst (λ (key : List ℕ). IsString key name) c.of.ensures named;
+      last = none;
+      holds = only_holds text name members (Some (text_at text m.value)) (holds_found text name members i no_member c.of.result.now (text_at text m.value) lt c.of.ensures named refl none);
     }
 
 pub loop-left-preserved : goal.loop-left-preserved

@@ -6,5 +6,4 @@ pub returns-in-None : goal.returns-in-None
 returns-in-None c =
     let inside = c.in-Some.inside.now in
     let plain : first_other inside ≡ None = ap first_other (sym c.as_bytes.ensures.value) ∙ sym c.first_not_plain.ensures ∙ c.in-None.is in
-    let string = c.in-Ok.ensures.cases in
-    plain_string c.args.text.now inside string.1 (sym string.0 ∙ c.in-Some.ensures) (all_plain inside plain)
+    plain_string c.args.text.now inside c.requires (sym c.from_utf8_unchecked-string.ensures ∙ c.in-Some.ensures) (all_plain inside plain)

@@ -1,7 +1,7 @@
-use Rattle.std.proofs.Common.{ℕ, List, [], codes, option_map, refl, ap, ◌∙◌, ◌++◌}
+use Rattle.std.proofs.Common.{[], codes, option_map}
 use Rattle.json.specs.Print.{quoted}
 use Rattle.airbyte_message.specs.Words.{failure_text}
-use Rattle.json_write.specs.Objects.{Part, named, open_object, object_text, optional}
+use Rattle.json_write.specs.Objects.{Part, named, optional}
 use Rattle.json_write.proofs.Texts.{grows, closes}
 use Rattle.message_writer.proofs.trace.put_error.Goals as goal
 

@@ -1,10 +1,8 @@
-use Rattle.std.proofs.Common.{◌≡◌, List, ℕ, sym, subst, ap, ◌∙◌}
+use Rattle.std.proofs.Common.{List, ℕ, sym, subst, ap, ◌∙◌}
 use Rattle.airbyte_message.specs.Messages.{IsMessage}
 use Rattle.airbyte_message.specs.Words.{payload_text, type_text}
-use Rattle.airbyte_message.specs.declared.message.Message.{Message}
-use Rattle.airbyte_message.specs.declared.read.MessageType.{MessageType}
 use Rattle.airbyte_message.proofs.OneMessage.{message_only}
-use Rattle.message_writer.specs.Written.{payload_of, type_of, written}
+use Rattle.message_writer.specs.Written.{payload_of, type_of}
 use Rattle.message_writer.proofs.Payloads.{written_is}
 use Rattle.message_writer.proofs.Texts.{line_closes}
 use Rattle.message_writer.proofs.write.write_message.Goals as goal

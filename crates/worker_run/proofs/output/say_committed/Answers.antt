@@ -1,4 +1,4 @@
-use Rattle.std.proofs.Common.{rules, arith, ◌<◌, List, length, subst}
+use Rattle.std.proofs.Common.{◌∙◌, rules, arith, ◌<◌, List, length, subst}
 use Rattle.std.proofs.lemmas.Grind.{common_steps}
 use Rattle.basics.specs.Told.{GrewByFront}
 use Rattle.outside.specs.declared.event.RawRow.{RawRow}
@@ -29,4 +29,5 @@ loop-event-preserved g c =
     record {
       said = said_rows c.args.events.now c.loop-event.event-index c.event-item.result old mid new within c.event-item.is c.loop-event.invariant.said (subst (λ (rows : List RawRow). SaidLines (body_lines rows) mid new) c.rows_in.ensures done.ok);
       only = only_then ⊥ ⊥ old mid new c.loop-event.invariant.only (only_where _ ⊥ mid new (λ b. absurd b) done.front.only);
+      stays = done.stays ∙ c.loop-event.invariant.stays;
     }

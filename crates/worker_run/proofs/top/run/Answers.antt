@@ -1,6 +1,7 @@
-use Rattle.std.proofs.Common.{map, string_bytes, sym, subst}
+use Rattle.std.proofs.Common.{map, string_bytes, sym, subst, ap, ◌∙◌}
 use Rattle.basics.specs.Told.{Rose}
 use Rattle.outside.specs.declared.status.Status.{Status}
+use Rattle.worker_run.specs.Ends.{status_of}
 use Rattle.worker_run.specs.Words.{asked}
 use Rattle.worker_run.specs.Reading.{IsOnlyEnd, EndsWithStatus, IsOkOrNoMemory}
 use Rattle.worker_run.proofs.RunLemmas.{says_only, says_status, says_complete}
@@ -26,3 +27,6 @@ returns-clause-complete g c = λ is nothing no_read no_say.
     let new = g.K.Desk.seen c.run_to_end.new.desk in
     let words = asked (map string_bytes c.args.words.now) in
     subst (λ (s : Status). IsOkOrNoMemory s) (sym c.status.ensures) (says_complete old.texts words (Rose old.read_faults new.read_faults) (Rose old.say_faults new.say_faults) c.run_to_end.result old.said new.said c.run_to_end.ensures.says c.run_to_end.ensures.read_faults.rose c.run_to_end.ensures.say_faults.rose is nothing no_read no_say)
+
+pub returns-clause-stays : goal.returns-clause-stays
+returns-clause-stays g c = λ not. c.run_to_end.ensures.stays (λ is. not (c.status.ensures ∙ ap status_of is))

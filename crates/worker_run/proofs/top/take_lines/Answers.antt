@@ -1,4 +1,4 @@
-use Rattle.std.proofs.Common.{Ok, sym, subst, ap, ◌∙◌, List, ℕ, [], ◌∷◌}
+use Rattle.std.proofs.Common.{◌≡◌, Ok, sym, subst, ap, ◌∙◌, List, ℕ, [], ◌∷◌}
 use Rattle.basics.specs.Told.{told_more, GrewByFront}
 use Rattle.outside.specs.Desk.{SaysOnly}
 use Rattle.outside.proofs.Says.{only_then, only_where}
@@ -19,18 +19,21 @@ lines-preserved g c =
       | in-Record w ↦ record {
         says = subst (λ (d : _). SaysLines c.args.world.now c.step.new.self before (g.K.Desk.seen d).said) (sym w.desk-is) (says_record c.args.world.now c.lines.world c.step.new.self before now c.lines.invariant.says (subst (λ (s : Step). Steps c.lines.world (Ok s) c.step.new.self) w.in-Record.is c.in_ok-step.ensures.steps));
         only = subst (λ (d : _). SaysOnly ⊥ start (g.K.Desk.seen d)) (sym w.desk-is) c.lines.invariant.only;
+        stays = subst (λ (d : _). (g.K.Desk.seen d).say_faults ≡ start.say_faults) (sym w.desk-is) c.lines.invariant.stays;
       }
       | in-Saved+in_ok-say_saved-in-Saved w ↦
           let said = w.in_ok-say_saved-in-Saved.ensures in
           record {
             says = subst (λ (d : _). SaysLines c.args.world.now c.step.new.self before (g.K.Desk.seen d).said) (sym w.desk-is) (says_state c.args.world.now c.lines.world c.step.new.self w.in-Saved.object before now (g.K.Desk.seen w.say_saved.new.desk).said c.lines.invariant.says (subst (λ (s : Step). Steps c.lines.world (Ok s) c.step.new.self) w.in-Saved.is c.in_ok-step.ensures.steps) (said.ok ∙ ap (λ (o : List ℕ). told_more (saved_line o ∷ []) now) w.as_slice.ensures));
             only = subst (λ (d : _). SaysOnly ⊥ start (g.K.Desk.seen d)) (sym w.desk-is) (only_then ⊥ ⊥ start (g.K.Desk.seen c.lines.desk) (g.K.Desk.seen w.say_saved.new.desk) c.lines.invariant.only (only_where _ ⊥ (g.K.Desk.seen c.lines.desk) (g.K.Desk.seen w.say_saved.new.desk) (λ b. absurd b) said.front.only));
+            stays = subst (λ (d : _). (g.K.Desk.seen d).say_faults ≡ start.say_faults) (sym w.desk-is) (said.stays ∙ c.lines.invariant.stays);
           }
       | in-Other+in_ok-say_other-in-Other w ↦
           let said = w.in_ok-say_other-in-Other.ensures in
           record {
             says = subst (λ (d : _). SaysLines c.args.world.now c.step.new.self before (g.K.Desk.seen d).said) (sym w.desk-is) (says_other c.args.world.now c.lines.world c.step.new.self w.in-Other.said before now (g.K.Desk.seen w.say_other.new.desk).said c.lines.invariant.says (subst (λ (s : Step). Steps c.lines.world (Ok s) c.step.new.self) w.in-Other.is c.in_ok-step.ensures.steps) said.ok);
             only = subst (λ (d : _). SaysOnly ⊥ start (g.K.Desk.seen d)) (sym w.desk-is) (only_then ⊥ ⊥ start (g.K.Desk.seen c.lines.desk) (g.K.Desk.seen w.say_other.new.desk) c.lines.invariant.only (only_where _ ⊥ (g.K.Desk.seen c.lines.desk) (g.K.Desk.seen w.say_other.new.desk) (λ b. absurd b) said.front.only));
+            stays = subst (λ (d : _). (g.K.Desk.seen d).say_faults ≡ start.say_faults) (sym w.desk-is) (said.stays ∙ c.lines.invariant.stays);
           }
     ]
 

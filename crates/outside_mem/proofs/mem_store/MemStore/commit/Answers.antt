@@ -1,4 +1,4 @@
-use Rattle.std.proofs.Common.{◌≡◌, List, ap, sym, ◌∙◌}
+use Rattle.std.proofs.Common.{List, ap, sym, ◌∙◌}
 use Rattle.outside.specs.declared.event.RawRow.{RawRow}
 use Rattle.outside.specs.Tables.{plan_at, tables_committed}
 use Rattle.outside_mem.proofs.StoreLemmas.{store_committed}

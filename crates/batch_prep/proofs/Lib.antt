@@ -1,0 +1,4 @@
+pub mod PlaceLemmas
+pub mod FoundLemmas
+pub mod WrittenLemmas
+pub mod RowLemmas

@@ -1,0 +1,10 @@
+pub mod FindLemmas
+pub mod BeginLemmas
+pub mod PutLemmas
+pub mod ListLemmas
+pub mod StoreTextLemmas
+pub mod OnceLemmas
+pub mod FormLemmas
+pub mod StateListLemmas
+pub mod ReadLemmas
+pub mod BackLemmas

@@ -1,0 +1,8 @@
+use Rattle.std.proofs.Common.{take}
+use Rattle.catalog.proofs.ListLemmas.{AreOnly}
+use Rattle.state_kinds.proofs.FormLemmas.{IsEntryAt}
+use Rattle.state_kinds.proofs.form.entries_at.Given as goal
+
+-- the elements so far
+abbrev pub invariant-loop-span : goal.invariant-loop-span
+invariant-loop-span l = AreOnly (IsEntryAt l.list) (take l.span-index l.spans) l.entries
