@@ -1,6 +1,6 @@
 -- What fits event by event fits in every prefix.
 use Rattle.std.proofs.Common.{◌≡◌, List, [], ◌∷◌, ◌++◌, sym, subst, append_assoc, append-nil}
-use Rattle.load_rules.specs.SafeDest.{EachFits}
+use Rattle.load_rules.specs.Prefixes.{EachFits}
 
 -- each element fits those before it, also in a front of the list
 pub front_fits : {A : Type 0} (fits : List A → A → Type 0) (before front rest : List A) (next : A) → EachFits fits before (front ++ next ∷ rest) → fits (before ++ front) next × EachFits fits before (front ++ next ∷ [])

@@ -1,14 +1,16 @@
 -- How much a load may hold: in every prefix, at most so many records are taken and not committed.
 use Rattle.std.specs.Prelude.{ℕ, ◌≤◌, List, [], ◌∷◌, ◌++◌, length}
-use Rattle.load_rules.specs.Acts.{Act, AreActs}
-use Rattle.load_rules.specs.Loads.{Load}
-use Rattle.load_rules.specs.SafeDest.{uncommitted}
+use Rattle.std.specs.List.{AllByRecursion}
+use Rattle.outside.specs.declared.event.Event.{Event}
+use Rattle.load_rules.specs.Prefixes.{EachFits}
+use Rattle.load_rules.specs.Lines.{Reading}
+use Rattle.load_rules.specs.Loads.{Load, loads, held_in}
 
-abbrev pub IsBoundedBehind : ℕ → List Act → List Act → Type 0
-IsBoundedBehind most before [] = length (uncommitted before) ≤ most
-IsBoundedBehind most before (act ∷ acts) = (length (uncommitted before) ≤ most) × IsBoundedBehind most (before ++ act ∷ []) acts
+abbrev pub HoldsAtMost : ℕ → Reading → List Event → Event → Type 0
+HoldsAtMost most read before event = length (held_in read (before ++ event ∷ [])) ≤ most
 
-pub record IsBounded (most : ℕ) (load : Load) : Type 0 where
-  pub acts : List Act
-  pub are : AreActs acts load.events
-  pub bounded : IsBoundedBehind most [] acts
+abbrev pub IsBounded : ℕ → Reading → Load → Type 0
+IsBounded most read load = EachFits (HoldsAtMost most read) [] load.events
+
+abbrev pub AreBounded : ℕ → Reading → List Event → Type 0
+AreBounded most read trace = AllByRecursion (IsBounded most read) (loads trace)

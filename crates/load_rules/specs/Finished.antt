@@ -1,19 +1,29 @@
 -- A finished load: all that was taken is committed, echoed, merged and shown.
-use Rattle.std.specs.Prelude.{◌≡◌, ℕ, List, [], ◌∷◌, fold, length, Bool, true, false, if◌then◌else◌, Option, None, Some}
-use Rattle.std.specs.List.{AllByRecursion, list_any}
+use Rattle.std.specs.Prelude.{◌≡◌, ℕ, List, [], ◌∷◌, fold, Bool, true, false, slice_get, if◌then◌else◌, Contains, Option, None, Some, IsSome}
+use Rattle.std.specs.List.{AllByRecursion}
 use Rattle.basics.specs.declared.stream.StreamId.{StreamId}
-use Rattle.outside.specs.Tables.{same_id, table_in, tables_of, unmerged_in}
+use Rattle.outside.specs.Tables.{same_id, tables_of, plan_at}
 use Rattle.outside.specs.declared.event.Event.{Event}
+use Rattle.outside.specs.declared.event.Event.TheVariants.{TookEnd}
 use Rattle.outside.specs.declared.event.StreamPlan.{StreamPlan}
 use Rattle.outside.specs.declared.table.Tables.{Tables}
+use Rattle.airbyte_message.specs.Lanes.{Lane, lane_of}
+use Rattle.airbyte_message.specs.State.{State}
 use Rattle.airbyte_message.specs.declared.stream_status.StreamStatus.{StreamStatus}
 use Rattle.airbyte_message.specs.declared.stream_status.StreamStatus.TheVariants.{Complete}
-use Rattle.load_rules.specs.Lanes.{Lane}
-use Rattle.load_rules.specs.Lines.{Line, Status, status_in}
+use Rattle.catalog.specs.declared.stream.ConfStream.{ConfStream}
+use Rattle.catalog.specs.declared.modes.DestMode.{DestMode}
+use Rattle.catalog.specs.declared.modes.DestMode.TheVariants as dest
+use Rattle.dedup_merge.specs.Merges.{unmerged_at}
+use Rattle.load_rules.specs.Lines.{Line, Reading, lines_read, Status, status_in, state_in}
 use Rattle.load_rules.specs.Taken.{states, of_lane}
-use Rattle.load_rules.specs.Loads.{Load, loads}
-use Rattle.load_rules.specs.Acts.{Act, AreActs, taken, echoed, is_end}
-use Rattle.load_rules.specs.SafeDest.{uncommitted}
+use Rattle.load_rules.specs.Loads.{Load, loads, tooks, held_in}
+use Rattle.load_rules.specs.Acts.{Act, AreActs, taken, echoed}
+
+abbrev pub is_dedup : DestMode → Bool
+is_dedup dest.AppendDedup = true
+is_dedup dest.Append = false
+is_dedup dest.Overwrite = false
 
 abbrev pub status_after : StreamId → Option StreamStatus → Option Status → Option StreamStatus
 status_after id last None = last
@@ -23,21 +33,33 @@ status_after id last (Some status) = if same_id status.id id then Some status.st
 abbrev pub last_status : StreamId → List Line → Option StreamStatus
 last_status id lines = fold (λ last line. status_after id last (status_in line.found)) None lines
 
--- Of a stream of the load's plan, as it stands at the end: its source said that it is complete; where it is deduplicated,
--- nothing is left to merge on the load's side; and it is not hidden, or no more.
-pub record StreamIsFinished (tables : Tables) (acts : List Act) (plan : StreamPlan) : Type 0 where
-  pub complete : last_status plan.id (taken acts) ≡ Some Complete
-  pub merged : plan.dedup ≡ true → unmerged_in plan (table_in tables.streams plan.id) ≡ []
+-- Of a stream of the catalog: it stands at its number in the load's plan; its source said last that it is complete; where it is
+-- deduplicated, nothing is left to merge on the load's side; and it is not hidden, or no more.
+pub record StreamIsFinished (tables : Tables) (lines : List Line) (number : ℕ) (stream : ConfStream) : Type 0 where
+  pub plan : StreamPlan
+  pub planned : plan_at tables number ≡ Some plan
+  pub same : plan.id ≡ stream.id
+  pub complete : last_status stream.id lines ≡ Some Complete
+  pub merged : is_dedup stream.dest ≡ true → unmerged_at tables number ≡ []
   pub shown : plan.hidden ≡ false
 
+abbrev pub HasLane : Option State → Type 0
+HasLane None = Unit {0}
+HasLane (Some state) = IsSome (lane_of state.kind)
+
+-- each state of these acts is echoed, lane by lane in order; a state without a lane has no echo
+pub record EchoesAll (acts : List Act) : Type 0 where
+  pub lanes : AllByRecursion (λ line. HasLane (state_in line.found)) (taken acts)
+  pub echoed_are : (lane : Lane) → echoed lane acts ≡ of_lane lane (states (taken acts))
+
 -- the last load of the trace is finished
-pub record IsFinished (trace : List Event) : Type 0 where
+pub record IsFinished (streams : List ConfStream) (read : Reading) (trace : List Event) : Type 0 where
   pub load : Load
   pub older : List Load
   pub last : loads trace ≡ load ∷ older
+  pub ended : Contains load.events TookEnd
+  pub committed_are : held_in read load.events ≡ []
   pub acts : List Act
-  pub are : AreActs acts load.events
-  pub ended : list_any is_end acts ≡ true
-  pub committed_are : uncommitted acts ≡ []
-  pub echoed_are : (lane : Lane) → length (echoed lane acts) ≡ length (of_lane lane (states (taken acts)))
-  pub each : AllByRecursion (StreamIsFinished (tables_of trace) acts) (tables_of trace).plan
+  pub are : AreActs read acts load.events
+  pub echoes : EchoesAll acts
+  pub each : (number : ℕ) (stream : ConfStream) → slice_get streams number ≡ Some stream → StreamIsFinished (tables_of trace) (lines_read read (tooks load.events)) number stream

@@ -1,39 +1,40 @@
--- What holds of each load, of each run of the machine, and of lines through two pipes.
-use Rattle.std.specs.Prelude.{◌≡◌, ℕ, List, [], ◌∷◌, ◌++◌, flat_map, filter_map, Option, None, Some, true, false, Contains}
-use Rattle.std.specs.List.{AllByRecursion, list_any}
+-- What holds of each load, of each run of the machine, and of the attempts of a trace.
+use Rattle.std.specs.Prelude.{◌≡◌, ℕ, ◌<◌, ◌^◌, List, [], ◌∷◌, ◌++◌, length, Bool, not, true, false, Contains, ◌↔◌}
+use Rattle.std.specs.List.{AllByRecursion, take_while}
 use Rattle.basics.specs.declared.stream.StreamId.{StreamId}
 use Rattle.outside.specs.declared.event.Event.{Event}
 use Rattle.outside.specs.declared.event.Event.TheVariants as event
 use Rattle.outside.specs.declared.event.RawRow.{RawRow}
 use Rattle.catalog.specs.declared.stream.ConfStream.{ConfStream}
-use Rattle.airbyte_message.specs.Echo.{IsEcho}
-use Rattle.airbyte_message.specs.Messages.{IsStateLine}
-use Rattle.airbyte_message.specs.Same.{Same}
-use Rattle.airbyte_message.specs.States.{IsState}
-use Rattle.airbyte_message.specs.declared.message.StateMsg.{StateMsg}
-use Rattle.load_rules.specs.Lanes.{Lane, lane_of}
-use Rattle.load_rules.specs.Taken.{Entry, entries}
-use Rattle.load_rules.specs.Loads.{Opening, Load, loads, store_events, is_opened}
+use Rattle.airbyte_message.specs.Lanes.{Lane, LaneCovers}
+use Rattle.dedup_merge.specs.Merges.{MergesFit}
+use Rattle.load_rules.specs.Prefixes.{EachFits, IsPrefix}
+use Rattle.load_rules.specs.Lines.{Reading, IsReading}
+use Rattle.load_rules.specs.Taken.{Entry, entries, covers, is_in}
+use Rattle.load_rules.specs.Loads.{Opening, Load, loads, is_opened, tooks}
 use Rattle.load_rules.specs.Rows.{IsRowOf}
-use Rattle.load_rules.specs.Acts.{Act, AreActs, taken, committed, echoed, rows_of}
-use Rattle.load_rules.specs.SafeDest.{Fits, EachFits, IsSafeLoad, IsSafeDest, is_in}
-use Rattle.load_rules.specs.Attempts.{Attempt, gives, gots}
-use Rattle.load_rules.specs.Honest.{IsHonestAttempt}
-use Rattle.load_rules.specs.Engine.{IsPrefix, IsEngineRun}
-use Rattle.load_rules.specs.Machine.{Step, start, run, accepted, AreRows, IsDrained, flags, IsTail}
+use Rattle.load_rules.specs.Acts.{Act, Commits, taken, committed, echoed}
+use Rattle.load_rules.specs.SafeDest.{Fits, IsSafeLoad, IsSafeDest}
+use Rattle.load_rules.specs.Stores.{CommittedFits, IsStoreRun}
+use Rattle.load_rules.specs.Attempts.{Attempt, attempts, gives, gots, emits}
+use Rattle.load_rules.specs.Honest.{IsHonestAttempt, AddsHonestly}
+use Rattle.load_rules.specs.Engine.{OpensFirst, IsEngineRun}
+use Rattle.load_rules.specs.Machine.{Step, start, run, accepted, KeepsSequences, AreRows, IsDrained, flags, IsTail}
+
+-- The machine
 
 -- Every run from the empty state: each emitted state is the next of its lane, with its count, and everything before it was
 -- committed earlier; each commit is of rows of records that were accepted earlier, and none twice.
 abbrev pub RunsAreSafe : Type 0
 RunsAreSafe =
     (streams : List ConfStream) (opening : Opening) (row : ℕ → Entry → RawRow) (steps : List Step)
-    → AreRows streams opening row (accepted steps) → EachFits (Fits streams opening) [] (run streams row steps start).acts
+    → KeepsSequences row → AreRows streams opening row (run streams row steps start).acts → EachFits (Fits streams opening) [] (run streams row steps start).acts
 
 -- Where nothing is queued or handed out and no state is releasable, no state waits.
 abbrev pub NoStateIsLeft : Type 0
 NoStateIsLeft =
-    (streams : List ConfStream) (opening : Opening) (row : ℕ → Entry → RawRow) (steps : List Step)
-    → AreRows streams opening row (accepted steps) → IsDrained (run streams row steps start) → (run streams row steps start).waiting ≡ []
+    (streams : List ConfStream) (row : ℕ → Entry → RawRow) (steps : List Step)
+    → KeepsSequences row → IsDrained (run streams row steps start) → (run streams row steps start).waiting ≡ []
 
 pub record EndAlike (first second : List Act) : Type 0 where
   pub committed_alike : (seq : ℕ) → is_in seq (committed first) ≡ is_in seq (committed second)
@@ -43,14 +44,20 @@ pub record EndAlike (first second : List Act) : Type 0 where
 -- order their other steps took.
 abbrev pub OrderIsFree : Type 0
 OrderIsFree =
-    (streams : List ConfStream) (opening : Opening) (row : ℕ → Entry → RawRow) (first second : List Step)
-    → AreRows streams opening row (accepted first) → accepted first ≡ accepted second
+    (streams : List ConfStream) (row : ℕ → Entry → RawRow) (first second : List Step)
+    → KeepsSequences row → accepted first ≡ accepted second
     → IsDrained (run streams row first start) → IsDrained (run streams row second start)
     → EndAlike (run streams row first start).acts (run streams row second start).acts
 
 -- sealed records of a stream stand in front of unsealed ones, whatever was handed out and taken back
 abbrev pub SealedInFront : Type 0
 SealedInFront = (streams : List ConfStream) (row : ℕ → Entry → RawRow) (steps : List Step) (id : StreamId) → IsTail (flags id (run streams row steps start).placed)
+
+-- Loads
+
+-- a lane covers a stream's records where a state of that lane covers them
+abbrev pub LanesCover : Type 0
+LanesCover = (lane : Lane) (stream : StreamId) → (covers lane stream ≡ true) ↔ LaneCovers lane stream
 
 -- each prefix of what fits event by event fits, and its last event fits those before it
 abbrev pub PrefixesFit : Type 0
@@ -59,29 +66,33 @@ PrefixesFit =
     → EachFits (Fits streams opening) [] (front ++ act ∷ rest) → Fits streams opening front act × EachFits (Fits streams opening) [] (front ++ act ∷ [])
 
 abbrev pub FrontsAreSafe : Type 0
-FrontsAreSafe = (streams : List ConfStream) (front rest : List Event) → IsSafeDest streams (front ++ rest) → IsSafeDest streams front
+FrontsAreSafe = (streams : List ConfStream) (read : Reading) (front rest : List Event) → IsSafeDest streams read (front ++ rest) → IsSafeDest streams read front
 
 -- a run of the engine is one in every prefix
 abbrev pub FrontsAreRuns : Type 0
-FrontsAreRuns = (streams : List ConfStream) (front rest : List Event) → IsEngineRun streams (front ++ rest) → IsEngineRun streams front
+FrontsAreRuns = (streams : List ConfStream) (read : Reading) (front rest : List Event) → IsEngineRun streams read (front ++ rest) → IsEngineRun streams read front
 
 -- the last load, where there is one, is safe
-abbrev pub IsSafeLast : List ConfStream → List Load → Type 0
-IsSafeLast streams [] = ⊥
-IsSafeLast streams (load ∷ older) = IsSafeLoad streams load
+abbrev pub IsSafeLast : List ConfStream → Reading → List Load → Type 0
+IsSafeLast streams read [] = ⊥
+IsSafeLast streams read (load ∷ older) = IsSafeLoad streams read load
 
 abbrev pub OpensNothing : List Event → Type 0
 OpensNothing more = AllByRecursion (λ event. is_opened event ≡ false) more
 
 -- a safe trace stays one where its last load goes on safely
 abbrev pub StaysSafe : Type 0
-StaysSafe = (streams : List ConfStream) (trace more : List Event) → IsSafeDest streams trace → OpensNothing more → IsSafeLast streams (loads (trace ++ more)) → IsSafeDest streams (trace ++ more)
+StaysSafe =
+    (streams : List ConfStream) (read : Reading) (trace more : List Event)
+    → IsSafeDest streams read trace → OpensNothing more → IsSafeLast streams read (loads (trace ++ more)) → IsSafeDest streams read (trace ++ more)
 
 -- where the sequence of a record of a load is committed, its own row is, in a commit of its stream
 pub record IsOwnRow (streams : List ConfStream) (opening : Opening) (acts : List Act) (entry : Entry) : Type 0 where
   pub number : ℕ
+  pub rows : List RawRow
+  pub commit : Contains acts (Commits number rows)
   pub row : RawRow
-  pub among : Contains (flat_map rows_of acts) row
+  pub among : Contains rows row
   pub is : IsRowOf streams opening number entry row
 
 abbrev pub RowsAreOwn : Type 0
@@ -90,43 +101,48 @@ RowsAreOwn =
     → EachFits (Fits streams opening) [] acts → Contains (entries (taken acts)) entry → is_in entry.seq (committed acts) ≡ true
     → IsOwnRow streams opening acts entry
 
+-- the merges of a store whose events fit one another fit
+abbrev pub StoreMergesFit : Type 0
+StoreMergesFit = (trace : List Event) → IsStoreRun trace → MergesFit trace
+
+-- a commit that keeps a trace safe has the number of its load, and sequences that are new in it
+abbrev pub SafeCommitsFit : Type 0
+SafeCommitsFit =
+    (streams : List ConfStream) (read : Reading) (before : List Event) (number : ℕ) (rows : List RawRow)
+    → IsSafeDest streams read (before ++ event.Committed number rows ∷ []) → CommittedFits before rows
+
+-- Attempts
+
 -- Lines through two pipes, whole: what the destination takes was given, and what comes back was emitted, in order.
-abbrev pub took_text : Event → Option (List ℕ)
-took_text (event.Took text) = Some text
-took_text event = None
-
-abbrev pub emitted_text : Event → Option (List ℕ)
-emitted_text (event.Emitted text) = Some text
-emitted_text event = None
-
 abbrev pub PipeFits : List Event → Event → Type 0
-PipeFits before (event.Took text) = IsPrefix (filter_map took_text before ++ text ∷ []) (gives before)
-PipeFits before (event.Got text) = IsPrefix (gots before ++ text ∷ []) (filter_map emitted_text before)
+PipeFits before (event.Took text) = IsPrefix (tooks before ++ text ∷ []) (gives before)
+PipeFits before (event.Got text) = IsPrefix (gots before ++ text ∷ []) (emits before)
 PipeFits before event = Unit {0}
 
-abbrev pub HasOpened : List Event → Type 0
-HasOpened before = list_any is_opened before ≡ true
-
--- an attempt opens one load, and all that its store does stands behind that
-abbrev pub OpensFirst : List Event → Event → Type 0
-OpensFirst before (event.Opened load moment plan) = store_events before ≡ []
-OpensFirst before (event.Took text) = HasOpened before
-OpensFirst before event.TookEnd = HasOpened before
-OpensFirst before (event.Committed stream rows) = HasOpened before
-OpensFirst before (event.Emitted text) = HasOpened before
-OpensFirst before event = Unit {0}
-
+-- whole lines through two pipes to a safe destination make an honest attempt
 abbrev pub PipesAreHonest : Type 0
 PipesAreHonest =
-    (streams : List ConfStream) (attempt : Attempt)
-    → IsSafeDest streams attempt.events → EachFits OpensFirst [] attempt.events → EachFits PipeFits [] attempt.events
-    → IsHonestAttempt streams attempt
+    (streams : List ConfStream) (read : Reading) (attempt : Attempt)
+    → IsReading read attempt.events → length attempt.events < 2 ^ 64
+    → IsSafeDest streams read attempt.events → EachFits OpensFirst [] attempt.events → EachFits PipeFits [] attempt.events
+    → IsHonestAttempt streams read attempt
 
--- The echo of a state reads as a state that is the same. (So does a line that comes back through a pipe.)
-pub record ReadsBack (state : StateMsg) (text : List ℕ) : Type 0 where
-  pub back : StateMsg
-  pub is : IsStateLine text back
-  pub same : Same state back
+-- An attempt of a run of the engine, by itself: a safe destination that opens one load, and does all else behind it.
+pub record IsSafeAttempt (streams : List ConfStream) (read : Reading) (attempt : Attempt) : Type 0 where
+  pub safe : IsSafeDest streams read attempt.events
+  pub opens : EachFits OpensFirst [] attempt.events
 
-abbrev pub EchoesReadBack : Type 0
-EchoesReadBack = (state : StateMsg) (lane : Lane) (count : ℕ) (text : List ℕ) → IsState state.object state → lane_of state.kind ≡ Some lane → IsEcho state.object count text → ReadsBack state text
+abbrev pub AttemptsAreSafe : Type 0
+AttemptsAreSafe = (streams : List ConfStream) (read : Reading) (trace : List Event) → IsEngineRun streams read trace → AllByRecursion (IsSafeAttempt streams read) (attempts trace)
+
+abbrev pub is_started : Event → Bool
+is_started (event.Started plan) = true
+is_started event = false
+
+-- Where each attempt that the added events begin is honest, and nothing comes back before the first of them, the events add
+-- honestly, whatever was before.
+abbrev pub HonestAttemptsAdd : Type 0
+HonestAttemptsAdd =
+    (streams : List ConfStream) (read : Reading) (before more : List Event)
+    → gots (take_while (λ event. not (is_started event)) more) ≡ [] → AllByRecursion (IsHonestAttempt streams read) (attempts more)
+    → AddsHonestly streams read before more

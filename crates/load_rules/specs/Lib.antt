@@ -1,4 +1,4 @@
-pub mod Lanes
+pub mod Prefixes
 pub mod Lines
 pub mod Taken
 pub mod Loads
@@ -7,7 +7,7 @@ pub mod Acts
 pub mod SafeDest
 pub mod Bounded
 pub mod Marks
-pub mod Sides
+pub mod Stores
 pub mod Finished
 pub mod Attempts
 pub mod Honest

@@ -1,42 +1,60 @@
--- Lines, each with the message that it is.
-use Rattle.std.specs.Prelude.{◌≡◌, ℕ, List, [], ◌∷◌, Bool, true, false, Option, None, Some, find, option_map, is_some}
-use Rattle.std.specs.List.{list_any}
+-- Lines, each with the message that it is read as.
+use Rattle.std.specs.Prelude.{ℕ, List, [], map, Bool, true, false, Option, None, Some}
+use Rattle.std.specs.List.{AllByRecursion, list_any}
 use Rattle.basics.specs.declared.stream.StreamId.{StreamId}
 use Rattle.json_fields.specs.Answer.{IsAnswer}
 use Rattle.outside.specs.Tables.{same_id}
+use Rattle.outside.specs.declared.event.Event.{Event}
+use Rattle.outside.specs.declared.event.Event.TheVariants.{ReadLine, Given, Took, Got}
 use Rattle.airbyte_message.specs.Messages.{IsMessage}
 use Rattle.airbyte_message.specs.declared.message.Message.{Message}
 use Rattle.airbyte_message.specs.declared.message.Message.TheVariants as message
 use Rattle.airbyte_message.specs.declared.message.RecordMsg.{RecordMsg}
-use Rattle.airbyte_message.specs.declared.message.StateMsg.{StateMsg}
+use Rattle.airbyte_message.specs.State.{State}
 use Rattle.airbyte_message.specs.declared.message.StateKind.{StateKind}
 use Rattle.airbyte_message.specs.declared.message.StateKind.TheVariants as kind
 use Rattle.airbyte_message.specs.declared.message.TraceMsg.{TraceMsg}
 use Rattle.airbyte_message.specs.declared.message.TraceMsg.TheVariants as trace
 use Rattle.airbyte_message.specs.declared.stream_status.StreamStatus.{StreamStatus}
 
--- a line, and its message, where it is one
+-- a line, and what it is read as
 pub record Line : Type 0 where
   pub text : List ℕ
   pub found : Option Message
 
--- the line of this text
-pub record IsLine (text : List ℕ) (line : Line) : Type 0 where
-  pub text_is : line.text ≡ text
-  pub found_is : IsAnswer (IsMessage text) line.found
+-- What texts are read as. All that is said of lines here is said of a reading, and a program promises it for every reading that
+-- is right of the lines of its trace. So nothing is owed of a line that was taken and could not be read for want of memory.
+abbrev pub Reading : Type 0
+Reading = List ℕ → Option Message
 
--- the lines of these texts, in order
-abbrev pub AreLines : List (List ℕ) → List Line → Type 0
-AreLines [] [] = Unit {0}
-AreLines (text ∷ texts) (line ∷ lines) = IsLine text line × AreLines texts lines
-AreLines [] (line ∷ lines) = ⊥
-AreLines (text ∷ texts) [] = ⊥
+abbrev pub line_read : Reading → List ℕ → Line
+line_read read text = record { text = text; found = read text }
+
+abbrev pub lines_read : Reading → List (List ℕ) → List Line
+lines_read read texts = map (line_read read) texts
+
+-- a text is read as the message that it is, and as none where it is none
+abbrev pub ReadsText : Reading → List ℕ → Type 0
+ReadsText read text = IsAnswer (IsMessage text) (read text)
+
+-- The lines of a source, and those that a destination was given, took and sent back, are read. What a store emits is not: it is
+-- judged by the state that it echoes.
+abbrev pub ReadsEvent : Reading → Event → Type 0
+ReadsEvent read (ReadLine text) = ReadsText read text
+ReadsEvent read (Given text) = ReadsText read text
+ReadsEvent read (Took text) = ReadsText read text
+ReadsEvent read (Got text) = ReadsText read text
+ReadsEvent read event = Unit {0}
+
+-- the reading is right of these events
+abbrev pub IsReading : Reading → List Event → Type 0
+IsReading read events = AllByRecursion (ReadsEvent read) events
 
 abbrev pub record_in : Option Message → Option RecordMsg
 record_in (Some (message.Rec content)) = Some content
 record_in found = None
 
-abbrev pub state_in : Option Message → Option StateMsg
+abbrev pub state_in : Option Message → Option State
 state_in (Some (message.State state)) = Some state
 state_in found = None
 

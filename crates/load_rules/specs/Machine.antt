@@ -7,11 +7,10 @@ use Rattle.outside.specs.Tables.{same_id}
 use Rattle.outside.specs.declared.event.RawRow.{RawRow}
 use Rattle.catalog.specs.declared.stream.ConfStream.{ConfStream}
 use Rattle.load_rules.specs.Lines.{Line, record_in, state_in}
-use Rattle.load_rules.specs.Taken.{Entry, entries, entries_from, LaneState, state_of, covered, count_of}
+use Rattle.load_rules.specs.Taken.{Entry, entries, entries_from, LaneState, state_of, covered, is_in}
 use Rattle.load_rules.specs.Loads.{Opening}
 use Rattle.load_rules.specs.Rows.{IsRowOf}
-use Rattle.load_rules.specs.Acts.{Act, Takes, Ends, Commits, Echoes, Turns, taken, committed}
-use Rattle.load_rules.specs.SafeDest.{is_in}
+use Rattle.load_rules.specs.Acts.{Act, Takes, Ends, Commits, Echoes, Turns, taken, committed, rows_of}
 
 -- where a record is: in its stream's queue, sealed there or not, in a batch that is handed out, or committed
 pub data Place : Type 0 where
@@ -44,6 +43,8 @@ pub data Step : Type 0 where
   Commit : (number : ℕ) (id : StreamId) (batch : ℕ) → Step
   TakeBack : (id : StreamId) (batch : ℕ) → Step
   Release : Step
+  -- a merge, or a stream that is shown
+  Turn : Step
 
 abbrev pub queue : Entry → Placed
 queue entry = record { entry = entry; place = Queued }
@@ -131,7 +132,7 @@ commits row m number id batch (entry ∷ more) = record {
 abbrev pub releases : Machine → Option LaneState → Machine
 releases m None = m
 releases m (Some state) = record {
-  acts = m.acts ++ Echoes state.lane state.state.object (count_of state) ∷ [];
+  acts = m.acts ++ Echoes state ∷ [];
   placed = m.placed;
   waiting = without_first (is_releasable m.acts) m.waiting;
 }
@@ -155,6 +156,7 @@ happens streams row m (HandOut id count batch) = hands_out m id count batch (fil
 happens streams row m (Commit number id batch) = commits_at row m number id batch (slice_get streams number)
 happens streams row m (TakeBack id batch) = record m { placed = move (is_in_batch id batch) Sealed m.placed }
 happens streams row m Release = releases m (find (is_releasable m.acts) m.waiting)
+happens streams row m Turn = record m { acts = m.acts ++ Turns ∷ [] }
 
 -- any list of steps is a run
 abbrev pub run : List ConfStream → (ℕ → Entry → RawRow) → List Step → Machine → Machine
@@ -169,10 +171,15 @@ accepted_in step = None
 abbrev pub accepted : List Step → List Line
 accepted steps = filter_map accepted_in steps
 
--- these are the rows of the records that a run accepts
-abbrev pub AreRows : List ConfStream → Opening → (ℕ → Entry → RawRow) → List Line → Type 0
-AreRows streams opening row lines =
-    (number : ℕ) (stream : ConfStream) → slice_get streams number ≡ Some stream → (entry : Entry) → Contains (entries lines) entry → same_id stream.id entry.content.id ≡ true → IsRowOf streams opening number entry (row number entry)
+-- a row has the sequence of its record
+abbrev pub KeepsSequences : (ℕ → Entry → RawRow) → Type 0
+KeepsSequences row = (number : ℕ) (entry : Entry) → (row number entry).seq ≡ entry.seq
+
+-- These are the rows of the records that were committed, by the numbers of their commits. Of a record that is queued or handed out
+-- no row is asked: it may have none.
+abbrev pub AreRows : List ConfStream → Opening → (ℕ → Entry → RawRow) → List Act → Type 0
+AreRows streams opening row acts =
+    (number : ℕ) (rows : List RawRow) → Contains acts (Commits number rows) → (entry : Entry) → Contains (entries (taken acts)) entry → is_in entry.seq (map (λ one. one.seq) rows) ≡ true → IsRowOf streams opening number entry (row number entry)
 
 -- nothing is queued or handed out, and no state is releasable
 pub record IsDrained (m : Machine) : Type 0 where

@@ -30,6 +30,7 @@ pub record IsRowOf (streams : List ConfStream) (opening : Opening) (number : ℕ
   pub own : entry.content.id ≡ stream.id
   pub plan : StreamPlan
   pub planned : slice_get opening.plan number ≡ Some plan
+  pub same : plan.id ≡ stream.id
   pub columns : List Column
   pub columns_are : AreColumns stream.schema columns
   pub is : IsRow (row_parts opening stream plan columns entry) row

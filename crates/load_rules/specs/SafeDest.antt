@@ -1,21 +1,19 @@
 -- A safe destination, load by load and event by event: so what holds of a trace holds in every prefix of it.
-use Rattle.std.specs.Prelude.{◌≡◌, ℕ, List, [], ◌∷◌, ◌++◌, map, filter, length, slice_get, Bool, true, false, not, nat_eq, Option, None, Some}
-use Rattle.std.specs.List.{AllByRecursion, list_any}
+use Rattle.std.specs.Prelude.{◌≡◌, ℕ, List, [], ◌∷◌, filter, length, slice_get, Bool, true, Some}
+use Rattle.std.specs.List.{AllByRecursion}
 use Rattle.outside.specs.declared.event.Event.{Event}
 use Rattle.outside.specs.declared.event.RawRow.{RawRow}
 use Rattle.catalog.specs.declared.stream.ConfStream.{ConfStream}
-use Rattle.load_rules.specs.Lanes.{Lane}
-use Rattle.load_rules.specs.Taken.{Entry, entries, LaneState, states, of_lane, covered, count_of}
+use Rattle.load_rules.specs.Prefixes.{EachFits}
+use Rattle.load_rules.specs.Lines.{Reading}
+use Rattle.load_rules.specs.Taken.{Entry, entries, LaneState, states, of_lane, covered, is_in, without}
 use Rattle.load_rules.specs.Loads.{Opening, Load, loads, unopened}
 use Rattle.load_rules.specs.Rows.{IsRowOf}
 use Rattle.load_rules.specs.Acts.{Act, Takes, Ends, Commits, Echoes, Turns, AreActs, taken, committed, echoed}
 
-abbrev pub is_in : ℕ → List ℕ → Bool
-is_in seq seqs = list_any (λ other. nat_eq other seq) seqs
-
 -- the records that were taken and are not committed
 abbrev pub uncommitted : List Act → List Entry
-uncommitted acts = filter (λ entry. not (is_in entry.seq (committed acts))) (entries (taken acts))
+uncommitted acts = without (committed acts) (entries (taken acts))
 
 -- each row is that of its record, in order
 abbrev pub AreRowsOf : List ConfStream → Opening → ℕ → List Entry → List RawRow → Type 0
@@ -24,40 +22,32 @@ AreRowsOf streams opening number (entry ∷ more) (row ∷ rows) = IsRowOf strea
 AreRowsOf streams opening number [] (row ∷ rows) = ⊥
 AreRowsOf streams opening number (entry ∷ more) [] = ⊥
 
--- The rows of a commit are those of records of its stream that were taken earlier, and of which none is committed yet: so no
--- sequence is committed twice.
+-- The rows of a commit are those of records of its stream that were taken earlier, in order of their sequences, and of which none
+-- is committed yet: so no sequence is committed twice.
 pub record CommitFits (streams : List ConfStream) (opening : Opening) (before : List Act) (number : ℕ) (rows : List RawRow) : Type 0 where
   pub chosen : Entry → Bool
   pub are : AreRowsOf streams opening number (filter chosen (uncommitted before)) rows
 
 -- The k-th line that is emitted for a lane is the echo of the lane's k-th taken state, with its count; and each record
 -- before that state which it covers is committed.
-pub record EchoFits (before : List Act) (lane : Lane) (object : List ℕ) (count : ℕ) : Type 0 where
-  pub state : LaneState
-  pub next : slice_get (of_lane lane (states (taken before))) (length (echoed lane before)) ≡ Some state
-  pub object_is : object ≡ state.state.object
-  pub count_is : count ≡ count_of state
+pub record EchoFits (before : List Act) (state : LaneState) : Type 0 where
+  pub next : slice_get (of_lane state.lane (states (taken before))) (length (echoed state.lane before)) ≡ Some state
   pub committed_are : AllByRecursion (λ seq. is_in seq (committed before) ≡ true) (covered state)
 
--- an event may come behind these of its load
+-- an event may come behind these of its load; what a merge or a showing has to fit is said of the store's tables
 abbrev pub Fits : List ConfStream → Opening → List Act → Act → Type 0
 Fits streams opening before (Takes line) = Unit {0}
 Fits streams opening before Ends = Unit {0}
 Fits streams opening before (Commits number rows) = CommitFits streams opening before number rows
-Fits streams opening before (Echoes lane object count) = EchoFits before lane object count
+Fits streams opening before (Echoes state) = EchoFits before state
 Fits streams opening before Turns = Unit {0}
 
--- each fits those before it
-abbrev pub EachFits : {A : Type 0} → (List A → A → Type 0) → List A → List A → Type 0
-EachFits fits before [] = Unit {0}
-EachFits fits before (next ∷ more) = fits before next × EachFits fits (before ++ next ∷ []) more
-
-pub record IsSafeLoad (streams : List ConfStream) (load : Load) : Type 0 where
+pub record IsSafeLoad (streams : List ConfStream) (read : Reading) (load : Load) : Type 0 where
   pub acts : List Act
-  pub are : AreActs acts load.events
+  pub are : AreActs read acts load.events
   pub fit : EachFits (Fits streams load.opening) [] acts
 
 -- each load is safe, and a store does nothing before its first
-pub record IsSafeDest (streams : List ConfStream) (trace : List Event) : Type 0 where
+pub record IsSafeDest (streams : List ConfStream) (read : Reading) (trace : List Event) : Type 0 where
   pub opened : unopened trace ≡ []
-  pub each : AllByRecursion (IsSafeLoad streams) (loads trace)
+  pub each : AllByRecursion (IsSafeLoad streams read) (loads trace)

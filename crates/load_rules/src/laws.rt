@@ -1,5 +1,5 @@
 // The laws of loads, each as the contract of a function that does nothing.
-ghost use Rattle.load_rules.specs.Laws.{EchoesReadBack, FrontsAreRuns, FrontsAreSafe, NoStateIsLeft, OrderIsFree, PipesAreHonest, PrefixesFit, RowsAreOwn, RunsAreSafe, SealedInFront, StaysSafe};
+ghost use Rattle.load_rules.specs.Laws.{AttemptsAreSafe, FrontsAreRuns, FrontsAreSafe, HonestAttemptsAdd, LanesCover, NoStateIsLeft, OrderIsFree, PipesAreHonest, PrefixesFit, RowsAreOwn, RunsAreSafe, SafeCommitsFit, SealedInFront, StaysSafe, StoreMergesFit};
 
 /// Whatever the machine does, its load is safe.
 pub fn runs_are_safe()
@@ -51,7 +51,27 @@ pub fn pipes_are_honest()
     ensures { PipesAreHonest }
 {}
 
-/// The echo of a state reads as a state that is the same.
-pub fn echoes_read_back()
-    ensures { EchoesReadBack }
+/// A lane covers a stream's records where a state of that lane covers them.
+pub fn lanes_cover()
+    ensures { LanesCover }
+{}
+
+/// The merges of a store whose events fit one another fit.
+pub fn store_merges_fit()
+    ensures { StoreMergesFit }
+{}
+
+/// A commit that keeps a trace safe has the number of its load, and new sequences.
+pub fn safe_commits_fit()
+    ensures { SafeCommitsFit }
+{}
+
+/// Each attempt of a run of the engine is a safe destination by itself.
+pub fn attempts_are_safe()
+    ensures { AttemptsAreSafe }
+{}
+
+/// Honest attempts add honestly, whatever was before.
+pub fn honest_attempts_add()
+    ensures { HonestAttemptsAdd }
 {}
