@@ -17,9 +17,12 @@ pub record Attempt : Type 0 where
   pub plan : AttemptPlan
   pub events : List Event
 
+abbrev pub attempt_with : Event → Attempt → Attempt
+attempt_with event attempt = record attempt { events = attempt.events ++ event ∷ [] }
+
 abbrev pub attempts_after : List Attempt → Event → List Attempt
 attempts_after attempts (Started plan) = record { plan = plan; events = [] } ∷ attempts
-attempts_after attempts event = with_first (λ attempt. record attempt { events = attempt.events ++ event ∷ [] }) attempts
+attempts_after attempts event = with_first (attempt_with event) attempts
 
 -- the attempts, the last first
 abbrev pub attempts : List Event → List Attempt

@@ -33,9 +33,12 @@ is_opened event = false
 abbrev pub unopened : List Event → List Event
 unopened trace = take_while (λ event. not (is_opened event)) (store_events trace)
 
+abbrev pub with_event : Event → Load → Load
+with_event event load = record load { events = load.events ++ event ∷ [] }
+
 abbrev pub loads_after : List Load → Event → List Load
 loads_after loads (Opened load moment plan) = record { opening = record { load = load; moment = moment; plan = plan }; events = [] } ∷ loads
-loads_after loads event = with_first (λ load. record load { events = load.events ++ event ∷ [] }) loads
+loads_after loads event = with_first (with_event event) loads
 
 -- the loads, the last first
 abbrev pub loads : List Event → List Load
