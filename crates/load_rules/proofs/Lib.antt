@@ -1,3 +1,4 @@
 pub mod Fronts
 pub mod LoadFronts
 pub mod RunFronts
+pub mod HonestAdds
