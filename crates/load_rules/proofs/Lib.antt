@@ -4,3 +4,4 @@ pub mod RunFronts
 pub mod HonestAdds
 pub mod TakenLists
 pub mod Machines
+pub mod Drained
