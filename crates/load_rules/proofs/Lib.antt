@@ -5,3 +5,5 @@ pub mod HonestAdds
 pub mod TakenLists
 pub mod Machines
 pub mod Drained
+pub mod SafeRuns
+pub mod Tails

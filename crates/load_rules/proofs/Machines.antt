@@ -351,7 +351,7 @@ before_less acts state earlier same prefix released =
     in subst (λ lane. list_all (λ seq. is_in seq (committed acts)) (map (λ (entry : Entry). entry.seq) (filter (λ entry. covers lane entry.content.id) (entries earlier.before))) ≡ true) same (and_parts _ _ (sym parts ∙ whole)).0
 
 -- the first releasable state is the first of its lane
-first_of_lane : (acts : List Act) (low high : List Line) (list : List LaneState) (state : LaneState) → Rising low high list → find (is_releasable acts) list ≡ Some state → of_lane state.lane list ≡ state ∷ of_lane state.lane (without_first (is_releasable acts) list)
+pub first_of_lane : (acts : List Act) (low high : List Line) (list : List LaneState) (state : LaneState) → Rising low high list → find (is_releasable acts) list ≡ Some state → of_lane state.lane list ≡ state ∷ of_lane state.lane (without_first (is_releasable acts) list)
 first_of_lane acts low high [] state r e = absurd (grind (arith, e))
 first_of_lane acts low high (first ∷ more) state r e = at (cases_Bool (is_releasable acts first)) (first_of_lane acts first.before high more state r.1)
   where
@@ -398,7 +398,7 @@ echo_taken acts state = taken-more acts (Echoes state) ∙ append-nil (taken act
 pub echo_done : (acts : List Act) (state : LaneState) → committed (acts ++ Echoes state ∷ []) ≡ committed acts
 echo_done acts state = committed-more acts (Echoes state) ∙ append-nil (committed acts)
 
-lane_release : (m : Machine) (state : LaneState) (lane : Lane) → IsGood m → find (is_releasable m.acts) m.waiting ≡ Some state → LaneStands (m.acts ++ Echoes state ∷ []) (without_first (is_releasable m.acts) m.waiting) lane
+pub lane_release : (m : Machine) (state : LaneState) (lane : Lane) → IsGood m → find (is_releasable m.acts) m.waiting ≡ Some state → LaneStands (m.acts ++ Echoes state ∷ []) (without_first (is_releasable m.acts) m.waiting) lane
 lane_release m state lane g e = at (cases_Bool (is_same_lane lane state.lane))
   where
     at : (is_same_lane lane state.lane ≡ true) ⊎ (is_same_lane lane state.lane ≡ false) → LaneStands (m.acts ++ Echoes state ∷ []) (without_first (is_releasable m.acts) m.waiting) lane
