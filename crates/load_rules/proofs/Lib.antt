@@ -7,3 +7,4 @@ pub mod Machines
 pub mod Drained
 pub mod SafeRuns
 pub mod Tails
+pub mod OwnRows
