@@ -8,3 +8,4 @@ pub mod Drained
 pub mod SafeRuns
 pub mod Tails
 pub mod OwnRows
+pub mod SafeAttempts

@@ -99,7 +99,7 @@ all_filtered P test (event ∷ events) all = at (test event) (all_filtered P tes
     at true rest = (all.0, rest)
     at false rest = rest
 
-goes_on : (list : List Load) (event : Event) → is_opened event ≡ false → loads_after list event ≡ with_first (with_event event) list
+pub goes_on : (list : List Load) (event : Event) → is_opened event ≡ false → loads_after list event ≡ with_first (with_event event) list
 goes_on list (Opened a b c) not_opened = absurd (false≢true (sym not_opened))
 goes_on list (Took a) not_opened = refl
 goes_on list TookEnd not_opened = refl
