@@ -9,3 +9,4 @@ pub mod SafeRuns
 pub mod Tails
 pub mod OwnRows
 pub mod SafeAttempts
+pub mod SafeCommits

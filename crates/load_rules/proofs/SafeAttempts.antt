@@ -27,13 +27,13 @@ store_more events event = filter-append (λ it. not (is_links it)) events (event
 store_link : (events : List Event) (event : Event) → is_links event ≡ true → store_events (events ++ event ∷ []) ≡ store_events events
 store_link events event is = store_more events event ∙ (ap (λ b. store_events events ++ cond (not b) (event ∷ []) []) is ∙ append-nil (store_events events))
 
-store_own : (events : List Event) (event : Event) → is_links event ≡ false → store_events (events ++ event ∷ []) ≡ store_events events ++ event ∷ []
+pub store_own : (events : List Event) (event : Event) → is_links event ≡ false → store_events (events ++ event ∷ []) ≡ store_events events ++ event ∷ []
 store_own events event is = store_more events event ∙ ap (λ b. store_events events ++ cond (not b) (event ∷ []) []) is
 
 loads_link : (events : List Event) (event : Event) → is_links event ≡ true → loads (events ++ event ∷ []) ≡ loads events
 loads_link events event is = ap (fold loads_after []) (store_link events event is)
 
-loads_own : (events : List Event) (event : Event) → is_links event ≡ false → loads (events ++ event ∷ []) ≡ loads_after (loads events) event
+pub loads_own : (events : List Event) (event : Event) → is_links event ≡ false → loads (events ++ event ∷ []) ≡ loads_after (loads events) event
 loads_own events event is = ap (fold loads_after []) (store_own events event is) ∙ fold-append loads_after [] (store_events events) (event ∷ [])
 
 -- the attempt has opened its load, which is the trace's last
