@@ -10,3 +10,6 @@ pub mod Tails
 pub mod OwnRows
 pub mod SafeAttempts
 pub mod SafeCommits
+pub mod Pipes
+pub mod Returns
+pub mod Honesty

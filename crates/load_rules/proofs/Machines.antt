@@ -159,7 +159,7 @@ rising_more : (low high : List Line) (line : Line) (list : List LaneState) (stat
 rising_more low high line [] state is r = (subst (IsPrefix low) (sym is) r, subst (λ lines. IsPrefix lines (high ++ line ∷ [])) (sym is) (line ∷ [], refl))
 rising_more low high line (first ∷ more) state is r = (r.0, rising_more first.before high line more state is r.1)
 
-rising_accept : (lines : List Line) (line : Line) (list : List LaneState) → Rising [] lines list → Rising [] (lines ++ line ∷ []) (list ++ state_of lines (state_in line.found))
+pub rising_accept : (lines : List Line) (line : Line) (list : List LaneState) → Rising [] lines list → Rising [] (lines ++ line ∷ []) (list ++ state_of lines (state_in line.found))
 rising_accept lines line list r = at (state_in line.found)
   where
     here : (state : State) (lane : Option Lane) → Rising [] (lines ++ line ∷ []) (list ++ state_of_lane lines state lane)
@@ -170,7 +170,7 @@ rising_accept lines line list r = at (state_in line.found)
     at None = subst (Rising [] (lines ++ line ∷ [])) (sym (append-nil list)) (rising_on [] lines line list r)
     at (Some state) = here state (lane_of state.kind)
 
-states-one : (lines : List Line) (line : Line) → states (lines ++ line ∷ []) ≡ states lines ++ state_of lines (state_in line.found)
+pub states-one : (lines : List Line) (line : Line) → states (lines ++ line ∷ []) ≡ states lines ++ state_of lines (state_in line.found)
 states-one lines line = states-append [] lines (line ∷ []) ∙ ap (λ more. states lines ++ more) (append-nil (state_of lines (state_in line.found)))
 
 lane_accept : (acts : List Act) (waiting : List LaneState) (line : Line) (lane : Lane) → LaneStands acts waiting lane → LaneStands (acts ++ Takes line ∷ []) (waiting ++ state_of (taken acts) (state_in line.found)) lane
@@ -251,7 +251,7 @@ or_false : (b : Bool) → (b || false) ≡ b
 or_false true = refl
 or_false false = refl
 
-is_in-append : (seq : ℕ) (xs ys : List ℕ) → is_in seq (xs ++ ys) ≡ (is_in seq xs || is_in seq ys)
+pub is_in-append : (seq : ℕ) (xs ys : List ℕ) → is_in seq (xs ++ ys) ≡ (is_in seq xs || is_in seq ys)
 is_in-append seq xs ys = list_any-append (λ other. eqb other seq) xs ys
 
 marked-commit : (done more : List ℕ) (test : Placed → Bool) (list : List Placed) → AllByRecursion (IsMarked done) list → AllByRecursion (λ placed. is_in placed.entry.seq more ≡ test placed) list → AllByRecursion (IsMarked (done ++ more)) (move test Done list)
@@ -320,7 +320,7 @@ found_passes test (y ∷ ys) x e = at (cases_Bool (test y)) (found_passes test y
     at (inl passes) deeper = grind (arith, passes, e)
     at (inr fails) deeper = deeper (grind (arith, fails, e))
 
-prefix_on : (a b c : List Line) → IsPrefix a b → IsPrefix b c → IsPrefix a c
+pub prefix_on : (a b c : List Line) → IsPrefix a b → IsPrefix b c → IsPrefix a c
 prefix_on a b c first second = (first.0 ++ second.0, second.1 ∙ (ap (λ lines. lines ++ second.0) first.1 ∙ append_assoc a first.0 second.0))
 
 found_above : (test : LaneState → Bool) (low high : List Line) (list : List LaneState) (state : LaneState) → Rising low high list → find test list ≡ Some state → IsPrefix low state.before
@@ -380,7 +380,7 @@ other_lanes test lane (first ∷ more) state other e = at (cases_Bool (test firs
         grind (arith, passes, same, other)
     at (inr fails) deeper = let rest = deeper (rw fails at e) in grind (arith, fails, rest)
 
-rising_less : (low high : List Line) (first : LaneState) (list : List LaneState) → IsPrefix low first.before → Rising first.before high list → Rising low high list
+pub rising_less : (low high : List Line) (first : LaneState) (list : List LaneState) → IsPrefix low first.before → Rising first.before high list → Rising low high list
 rising_less low high first [] prefix r = prefix_on low first.before high prefix r
 rising_less low high first (next ∷ more) prefix r = (prefix_on low first.before next.before prefix r.0, r.1)
 

@@ -24,13 +24,13 @@ use Rattle.load_rules.proofs.LoadFronts.{loads-append, goes_on, fronts_are_safe}
 store_more : (events : List Event) (event : Event) → store_events (events ++ event ∷ []) ≡ store_events events ++ cond (not (is_links event)) (event ∷ []) []
 store_more events event = filter-append (λ it. not (is_links it)) events (event ∷ [])
 
-store_link : (events : List Event) (event : Event) → is_links event ≡ true → store_events (events ++ event ∷ []) ≡ store_events events
+pub store_link : (events : List Event) (event : Event) → is_links event ≡ true → store_events (events ++ event ∷ []) ≡ store_events events
 store_link events event is = store_more events event ∙ (ap (λ b. store_events events ++ cond (not b) (event ∷ []) []) is ∙ append-nil (store_events events))
 
 pub store_own : (events : List Event) (event : Event) → is_links event ≡ false → store_events (events ++ event ∷ []) ≡ store_events events ++ event ∷ []
 store_own events event is = store_more events event ∙ ap (λ b. store_events events ++ cond (not b) (event ∷ []) []) is
 
-loads_link : (events : List Event) (event : Event) → is_links event ≡ true → loads (events ++ event ∷ []) ≡ loads events
+pub loads_link : (events : List Event) (event : Event) → is_links event ≡ true → loads (events ++ event ∷ []) ≡ loads events
 loads_link events event is = ap (fold loads_after []) (store_link events event is)
 
 pub loads_own : (events : List Event) (event : Event) → is_links event ≡ false → loads (events ++ event ∷ []) ≡ loads_after (loads events) event
@@ -66,14 +66,14 @@ stage_opened events before x y z none = inr (record {
   opens = refl;
 })
 
-link_or_none : (event : Event) (events : List Event) → filter (λ it. not (is_links it)) (event ∷ events) ≡ [] → (is_links event ≡ true) × (filter (λ it. not (is_links it)) events ≡ [])
+pub link_or_none : (event : Event) (events : List Event) → filter (λ it. not (is_links it)) (event ∷ events) ≡ [] → (is_links event ≡ true) × (filter (λ it. not (is_links it)) events ≡ [])
 link_or_none event events none = at (is_links event) refl none
   where
     at : (b : Bool) → is_links event ≡ b → cond (not b) (event ∷ filter (λ it. not (is_links it)) events) (filter (λ it. not (is_links it)) events) ≡ [] → (is_links event ≡ true) × (filter (λ it. not (is_links it)) events ≡ [])
     at true is none = (is, none)
     at false is none = absurd (grind (arith, none))
 
-link_opens_not : (event : Event) → is_links event ≡ true → is_opened event ≡ false
+pub link_opens_not : (event : Event) → is_links event ≡ true → is_opened event ≡ false
 link_opens_not (Opened x y z) is = absurd (false≢true is)
 link_opens_not (Took x) is = refl
 link_opens_not TookEnd is = refl
@@ -91,7 +91,7 @@ link_opens_not GotEnd is = refl
 link_opens_not (Saved x) is = refl
 link_opens_not (Ended x) is = refl
 
-none_opened : (events : List Event) → store_events events ≡ [] → list_any is_opened events ≡ false
+pub none_opened : (events : List Event) → store_events events ≡ [] → list_any is_opened events ≡ false
 none_opened [] none = refl
 none_opened (event ∷ events) none =
     let parts = link_or_none event events none

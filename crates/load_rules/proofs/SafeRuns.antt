@@ -117,7 +117,7 @@ safe_commit streams opening row m number id batch (entry ∷ more) keeps is g sa
 
 -- Echoes
 
-slice_get-behind : {A : Type 0} (xs : List A) (y : A) (ys : List A) → slice_get (xs ++ y ∷ ys) (length xs) ≡ Some y
+pub slice_get-behind : {A : Type 0} (xs : List A) (y : A) (ys : List A) → slice_get (xs ++ y ∷ ys) (length xs) ≡ Some y
 slice_get-behind xs y ys = slice_get-get_or (xs ++ y ∷ ys) (length xs) y (grind (arith, length-append)) ∙ ap (λ x. Some x) (get_or-append_seam xs y ys y)
 
 all_released : (done seqs : List ℕ) → list_all (λ seq. is_in seq done) seqs ≡ true → AllByRecursion (λ seq. is_in seq done ≡ true) seqs
