@@ -1,12 +1,9 @@
 -- Runs that have drained.
-use Rattle.std.proofs.Common.{rules, arith, tests, ◌≡◌, ◌⊎◌, inl, inr, ℕ, ◌+◌, ◌<◌, ◌≤◌, eqb, List, [], ◌∷◌, ◌++◌, map, length, Option, None, Some, Bool, true, false, cond, refl, sym, ◌∙◌, ap, subst, append_assoc}
-use Rattle.std.specs.Prelude.{filter, filter_map, not, ◌||◌, ◌&&◌, find, slice_get}
-use Rattle.std.specs.List.{AllByRecursion, list_any, list_all}
-use Rattle.std.proofs.lemmas.List.{append-nil, map-append}
-use Rattle.std.proofs.lemmas.List.Elements.{filter_map-append}
-use Rattle.std.proofs.lemmas.Grind.{common_steps}
-use Rattle.std.proofs.lemmas.Bool.{and_parts, and_from, or_cases, or_right, eqb-true, eq-eqb, ne_eqb, cases_Bool, cases_eq, false≢true}
-use Rattle.basics.specs.declared.stream.StreamId.{StreamId}
+use Rattle.std.proofs.Common.{arith, ◌≡◌, ◌⊎◌, inl, inr, ℕ, ◌+◌, ◌<◌, ◌≤◌, eqb, List, [], ◌∷◌, ◌++◌, map, length, Option, None, Some, Bool, true, false, cond, refl, sym, ◌∙◌, ap, subst, append_assoc}
+use Rattle.std.specs.Prelude.{filter, find, slice_get}
+use Rattle.std.specs.List.{AllByRecursion, list_all}
+use Rattle.std.proofs.lemmas.List.{append-nil}
+use Rattle.std.proofs.lemmas.Bool.{and_parts, and_from, or_cases, eqb-true, eq-eqb, ne_eqb, cases_eq, false≢true}
 use Rattle.outside.specs.Tables.{same_id}
 use Rattle.outside.specs.declared.event.RawRow.{RawRow}
 use Rattle.catalog.specs.declared.stream.ConfStream.{ConfStream}
@@ -15,10 +12,10 @@ use Rattle.load_rules.specs.Prefixes.{IsPrefix}
 use Rattle.load_rules.specs.Lines.{Line}
 use Rattle.load_rules.specs.Taken.{Entry, entries, LaneState, states, of_lane, covers, is_in}
 use Rattle.load_rules.specs.Acts.{Act, Takes, Ends, Commits, Echoes, Turns, taken, committed, echoed}
-use Rattle.load_rules.specs.Machine.{Placed, Machine, Step, Accept, End, Seal, HandOut, Commit, TakeBack, Release, Turn, start, is_out, is_done, entry_of, in_batch, is_releasable, accepts, commits, releases, hands_out, commits_at, happens, run, accepted, KeepsSequences, IsDrained}
-use Rattle.load_rules.specs.Laws.{EndAlike, OrderIsFree, NoStateIsLeft}
+use Rattle.load_rules.specs.Machine.{Placed, Machine, Step, Accept, End, Seal, HandOut, Commit, TakeBack, Release, Turn, start, is_out, is_done, entry_of, in_batch, is_releasable, commits, releases, hands_out, commits_at, happens, run, accepted, IsDrained}
+use Rattle.load_rules.specs.Laws.{OrderIsFree, NoStateIsLeft}
 use Rattle.load_rules.proofs.TakenLists.{Numbered, numbered, covered_front}
-use Rattle.load_rules.proofs.Machines.{IsMarked, Rising, IsGood, LaneStands, seqs, good_run, good_start, taken-more, commit_taken, echo_taken, length_placed}
+use Rattle.load_rules.proofs.Machines.{IsMarked, Rising, IsGood, seqs, good_run, good_start, taken-more, commit_taken, echo_taken, length_placed}
 
 all_done : (done : List ℕ) (list : List Placed) → AllByRecursion (λ placed. is_done placed.place ≡ true) list → AllByRecursion (IsMarked done) list → AllByRecursion (λ entry. is_in entry.seq done ≡ true) (map entry_of list)
 all_done done [] held marked = tt

@@ -1,5 +1,5 @@
 -- What fits event by event fits in every prefix.
-use Rattle.std.proofs.Common.{◌≡◌, List, [], ◌∷◌, ◌++◌, sym, subst, append_assoc, append-nil}
+use Rattle.std.proofs.Common.{List, [], ◌∷◌, ◌++◌, sym, subst, append_assoc, append-nil}
 use Rattle.load_rules.specs.Prefixes.{EachFits}
 
 -- each element fits those before it, also in a front of the list

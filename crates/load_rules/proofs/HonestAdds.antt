@@ -1,5 +1,5 @@
 -- Honest attempts add honestly.
-use Rattle.std.proofs.Common.{rules, arith, ◌≡◌, ℕ, List, [], ◌∷◌, ◌++◌, Bool, true, false, cond, refl, sym, ◌∙◌, ap, subst}
+use Rattle.std.proofs.Common.{arith, ◌≡◌, List, [], ◌∷◌, ◌++◌, false, cond, refl, sym, ◌∙◌, ap, subst}
 use Rattle.std.specs.Prelude.{fold, not}
 use Rattle.std.specs.List.{AllByRecursion, take_while}
 use Rattle.std.proofs.lemmas.List.Sums.{fold-append, take_while-cons}
@@ -99,11 +99,10 @@ attempts-one before event = fold-append attempts_after [] before (event ∷ [])
 
 add_behind : (streams : List ConfStream) (read : Reading) (before events : List Event) (own : List Attempt) → AreAlike (attempts before) own → AreHonest streams read (fold attempts_after own events) → EachFits (AddedFits streams read) before events
 add_behind streams read before [] own alike honest = tt
-add_behind streams read before (event ∷ events) own alike honest =
-    (
-      event_fits streams read event (attempts before) own alike (all_back streams read (attempts_after own event) events honest),
-      add_behind streams read (before ++ event ∷ []) events (attempts_after own event) (subst (λ list. AreAlike list (attempts_after own event)) (sym (attempts-one before event)) (alike_after (attempts before) own event alike)) honest
-    )
+add_behind streams read before (event ∷ events) own alike honest = (
+  event_fits streams read event (attempts before) own alike (all_back streams read (attempts_after own event) events honest),
+  add_behind streams read (before ++ event ∷ []) events (attempts_after own event) (subst (λ list. AreAlike list (attempts_after own event)) (sym (attempts-one before event)) (alike_after (attempts before) own event alike)) honest,
+)
 
 taken_on : (event : Event) (events : List Event) → is_started event ≡ false → gots (take_while (λ one. not (is_started one)) (event ∷ events)) ≡ [] → gots (event ∷ take_while (λ one. not (is_started one)) events) ≡ []
 taken_on event events going none =

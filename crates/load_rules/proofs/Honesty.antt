@@ -1,10 +1,10 @@
 -- Whole lines through two pipes to a safe destination make an honest attempt.
-use Rattle.std.proofs.Common.{rules, arith, ◌≡◌, ◌⊎◌, inl, inr, ℕ, ◌+◌, ◌<◌, ◌≤◌, ◌^◌, List, [], ◌∷◌, ◌++◌, map, length, Option, None, Some, Bool, true, false, cond, refl, sym, ◌∙◌, ap, subst, append_assoc, length-append}
-use Rattle.std.specs.Prelude.{filter, filter_map, fold, not, Contains}
+use Rattle.std.proofs.Common.{arith, ◌≡◌, ◌⊎◌, inl, inr, ℕ, ◌+◌, ◌<◌, ◌≤◌, ◌^◌, List, [], ◌∷◌, ◌++◌, map, length, Bool, true, false, cond, refl, sym, ◌∙◌, ap, subst, append_assoc, length-append}
+use Rattle.std.specs.Prelude.{filter, filter_map, Contains}
 use Rattle.std.specs.List.{AllByRecursion}
 use Rattle.std.proofs.lemmas.List.{append-nil, map-append}
-use Rattle.std.proofs.lemmas.List.Elements.{filter-append, filter_map-append, Contains-append_left, Contains-append_right}
-use Rattle.std.proofs.lemmas.Bool.{cases_Bool, false≢true}
+use Rattle.std.proofs.lemmas.List.Elements.{filter-append, Contains-append_left, Contains-append_right}
+use Rattle.std.proofs.lemmas.Bool.{false≢true}
 use Rattle.outside.specs.declared.event.Event.{Event}
 use Rattle.outside.specs.declared.event.Event.TheVariants.{Opened, Took, TookEnd, Committed, Emitted, Merged, Shown, Started, ReadLine, ReadEnd, Given, Closed, Got, GotEnd, Saved, Ended}
 use Rattle.outside.specs.declared.event.RawRow.{RawRow}
@@ -14,21 +14,21 @@ use Rattle.airbyte_message.specs.Echo.{IsEcho}
 use Rattle.load_rules.specs.Prefixes.{EachFits, IsPrefix}
 use Rattle.load_rules.specs.Lines.{Line, Reading, ReadsText, ReadsEvent, IsReading, line_read, lines_read, state_in}
 use Rattle.load_rules.specs.Taken.{Entry, entries, entries_from, LaneState, state_of, states, states_behind, of_lane, is_same_lane, covers, covered, count_of, is_in}
-use Rattle.load_rules.specs.Loads.{Load, loads, tooks}
-use Rattle.load_rules.specs.Acts.{Act, Takes, Ends, Commits, Echoes, Turns, IsAct, AreActs, taken, committed, echoed, state_echoed}
-use Rattle.load_rules.specs.SafeDest.{Fits, IsSafeLoad, IsSafeDest}
-use Rattle.load_rules.specs.Attempts.{Attempt, gives, gots, emits, TakesState}
-use Rattle.load_rules.specs.Honest.{IsCommitted, HonestFits, GotFits, IsHonestAttempt}
+use Rattle.load_rules.specs.Loads.{Load, tooks}
+use Rattle.load_rules.specs.Acts.{Act, Commits, IsAct, AreActs, taken, committed, echoed, state_echoed}
+use Rattle.load_rules.specs.SafeDest.{IsSafeLoad, IsSafeDest}
+use Rattle.load_rules.specs.Attempts.{gives, gots, emits}
+use Rattle.load_rules.specs.Honest.{IsCommitted, HonestFits, GotFits}
 use Rattle.load_rules.specs.Engine.{OpensFirst}
 use Rattle.load_rules.specs.Laws.{IsOwnRow, PipeFits, PipesAreHonest}
 use Rattle.load_rules.proofs.Fronts.{each_front, each_at}
 use Rattle.load_rules.proofs.LoadFronts.{fronts_are_safe}
 use Rattle.load_rules.proofs.TakenLists.{entries-append, states-append}
-use Rattle.load_rules.proofs.Machines.{Rising, prefix_on, rising_accept, rising_less, states-one, lane_own, lane_is}
+use Rattle.load_rules.proofs.Machines.{Rising, prefix_on, rising_accept, rising_less, lane_own, lane_is}
 use Rattle.load_rules.proofs.SafeRuns.{contains_first, contains_none, contains_cases}
 use Rattle.load_rules.proofs.OwnRows.{rows_are_own}
 use Rattle.load_rules.proofs.Pipes.{EchoesStand, echoes_stand, AreEchoes, acts_echoes, acts_taken, OneLoad, may_load, MayLoad, taken_given}
-use Rattle.load_rules.proofs.Returns.{IsEchoable, right_states, Returned, returned, AreReturned, all_returned, taken_low, EndsAt, waits_at}
+use Rattle.load_rules.proofs.Returns.{IsEchoable, right_states, Returned, returned, all_returned, taken_low, waits_at}
 
 -- Lists
 
@@ -207,7 +207,7 @@ commit_told : (read : Reading) (acts : List Act) (events : List Event) (number :
 commit_told read [] events number rows are c = absurd (contains_none (Commits number rows) c)
 commit_told read (act ∷ acts) [] number rows are c = absurd are
 commit_told read (act ∷ acts) (event ∷ events) number rows are c = at (contains_cases act acts (Commits number rows) c)
-  (λ there. Contains-append_right (event ∷ []) events (Committed number rows) (commit_told read acts events number rows are.1 there))
+    (λ there. Contains-append_right (event ∷ []) events (Committed number rows) (commit_told read acts events number rows are.1 there))
   where
     told : (event : Event) → IsAct read (Commits number rows) event → event ≡ Committed number rows
     told (Opened x y z) is = absurd is

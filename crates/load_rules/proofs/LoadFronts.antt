@@ -1,19 +1,19 @@
 -- Loads of a front of a trace, and of a trace that goes on.
-use Rattle.std.proofs.Common.{rules, arith, ◌≡◌, ◌⊎◌, inl, inr, ℕ, List, [], ◌∷◌, ◌++◌, Bool, true, false, cond, refl, sym, ◌∙◌, ap, subst}
+use Rattle.std.proofs.Common.{arith, ◌≡◌, List, [], ◌∷◌, ◌++◌, Bool, true, false, cond, refl, sym, ◌∙◌, ap, subst}
 use Rattle.std.specs.Prelude.{filter, fold, not}
 use Rattle.std.specs.List.{AllByRecursion, take_while}
 use Rattle.std.proofs.lemmas.List.Elements.{filter-append}
 use Rattle.std.proofs.lemmas.List.Sums.{fold-append, take_while-cons}
-use Rattle.std.proofs.lemmas.Bool.{cases_Bool, false≢true}
+use Rattle.std.proofs.lemmas.Bool.{false≢true}
 use Rattle.outside.specs.Event.{is_links}
 use Rattle.outside.specs.declared.event.Event.{Event}
 use Rattle.outside.specs.declared.event.Event.TheVariants.{Opened, Took, TookEnd, Committed, Emitted, Merged, Shown, Started, ReadLine, ReadEnd, Given, Closed, Got, GotEnd, Saved, Ended}
 use Rattle.catalog.specs.declared.stream.ConfStream.{ConfStream}
 use Rattle.load_rules.specs.Prefixes.{EachFits, with_first}
 use Rattle.load_rules.specs.Lines.{Reading}
-use Rattle.load_rules.specs.Loads.{Opening, Load, loads, loads_after, with_event, store_events, is_opened, unopened}
+use Rattle.load_rules.specs.Loads.{Load, loads, loads_after, with_event, store_events, is_opened}
 use Rattle.load_rules.specs.Acts.{Act, AreActs}
-use Rattle.load_rules.specs.SafeDest.{Fits, IsSafeLoad, IsSafeDest}
+use Rattle.load_rules.specs.SafeDest.{Fits, IsSafeLoad}
 use Rattle.load_rules.specs.Laws.{IsSafeLast, OpensNothing, FrontsAreSafe, StaysSafe}
 use Rattle.load_rules.proofs.Fronts.{each_front}
 

@@ -1,12 +1,12 @@
 -- What every run of the machine keeps.
-use Rattle.std.proofs.Common.{rules, arith, tests, ◌≡◌, ◌⊎◌, inl, inr, ℕ, ◌+◌, ◌-◌, ◌<◌, ◌≤◌, eqb, ltb, List, [], ◌∷◌, ◌++◌, map, length, Option, None, Some, Bool, true, false, cond, refl, sym, ◌∙◌, ap, subst, append_assoc, length-append}
-use Rattle.std.specs.Prelude.{filter, filter_map, flat_map, not, ◌||◌, ◌&&◌, find, slice_get}
-use Rattle.std.specs.List.{AllByRecursion, list_any, list_all}
+use Rattle.std.proofs.Common.{arith, ◌≡◌, ◌⊎◌, inl, inr, ℕ, ◌+◌, ◌-◌, ◌<◌, ◌≤◌, eqb, ltb, List, [], ◌∷◌, ◌++◌, map, length, Option, None, Some, Bool, true, false, cond, refl, sym, ◌∙◌, ap, subst, append_assoc, length-append}
+use Rattle.std.specs.Prelude.{filter, filter_map, flat_map, ◌||◌, ◌&&◌, find}
+use Rattle.std.specs.List.{AllByRecursion, list_all}
 use Rattle.std.proofs.lemmas.List.{append-nil, map-append}
 use Rattle.std.proofs.lemmas.List.Elements.{filter_map-append, filter-append}
 use Rattle.std.proofs.lemmas.List.Folds.{list_any-append}
-use Rattle.std.proofs.lemmas.Grind.{flat_map-append, common_steps}
-use Rattle.std.proofs.lemmas.Bool.{and_parts, or_right, eq-eqb, eqb-true, and_from, cases_Bool, false≢true, ne_eqb}
+use Rattle.std.proofs.lemmas.Grind.{flat_map-append}
+use Rattle.std.proofs.lemmas.Bool.{and_parts, or_right, eq-eqb, cases_Bool, false≢true, ne_eqb}
 use Rattle.basics.specs.declared.stream.StreamId.{StreamId}
 use Rattle.outside.specs.Tables.{same_id}
 use Rattle.outside.specs.declared.event.RawRow.{RawRow}
@@ -18,9 +18,9 @@ use Rattle.airbyte_message.specs.State.{State}
 use Rattle.airbyte_message.specs.declared.message.RecordMsg.{RecordMsg}
 use Rattle.load_rules.specs.Prefixes.{IsPrefix}
 use Rattle.load_rules.specs.Lines.{Line, record_in, state_in}
-use Rattle.load_rules.specs.Taken.{Entry, and_record, entries_from, entries, LaneState, state_of, state_of_lane, states, of_lane, covers, covered, is_same_lane, is_in}
+use Rattle.load_rules.specs.Taken.{Entry, and_record, entries_from, entries, LaneState, state_of, state_of_lane, states, of_lane, covers, is_same_lane, is_in}
 use Rattle.load_rules.specs.Acts.{Act, Takes, Ends, Commits, Echoes, Turns, line_of, taken, rows_of, committed, state_echoed, echoed}
-use Rattle.load_rules.specs.Machine.{Place, Queued, Sealed, Out, Done, Placed, Machine, Step, Accept, End, Seal, HandOut, Commit, TakeBack, Release, Turn, start, queue, is_out, is_sealed, is_queued, is_done, is_of, is_queued_of, is_sealed_of, is_in_batch, put_in, move, move_first, entry_of, in_batch, is_releasable, without_first, accepts, commits, releases, hands_out, commits_at, happens, run, accepted, KeepsSequences}
+use Rattle.load_rules.specs.Machine.{Place, Queued, Sealed, Out, Done, Placed, Machine, Step, Accept, End, Seal, HandOut, Commit, TakeBack, Release, Turn, start, queue, is_out, is_sealed, is_queued, is_done, is_queued_of, is_sealed_of, is_in_batch, put_in, move, move_first, entry_of, in_batch, is_releasable, without_first, accepts, commits, releases, hands_out, commits_at, happens, run, KeepsSequences}
 use Rattle.load_rules.proofs.TakenLists.{entries-append, states-append, all_append, all_weaker, all_both, Numbered, numbered, covered_front}
 
 -- the place of a record says whether it is committed

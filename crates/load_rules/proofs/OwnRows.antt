@@ -1,16 +1,16 @@
 -- Where the sequence of a record is committed, its own row is.
-use Rattle.std.proofs.Common.{rules, arith, tests, ◌≡◌, ◌⊎◌, inl, inr, ℕ, ◌+◌, ◌<◌, ◌≤◌, eqb, List, [], ◌∷◌, ◌++◌, map, length, Option, None, Some, Bool, true, false, cond, refl, sym, ◌∙◌, ap, subst, append_assoc, length-append}
-use Rattle.std.specs.Prelude.{filter, not, ◌||◌, ◌&&◌, Contains}
-use Rattle.std.specs.List.{AllByRecursion, list_any}
-use Rattle.std.proofs.lemmas.List.{append-nil, map-append}
+use Rattle.std.proofs.Common.{arith, ◌≡◌, ◌⊎◌, inl, inr, ℕ, ◌+◌, ◌<◌, ◌≤◌, eqb, List, [], ◌∷◌, ◌++◌, map, length, Bool, true, false, cond, sym, ◌∙◌, ap, subst, append_assoc, length-append}
+use Rattle.std.specs.Prelude.{filter, not, Contains}
+use Rattle.std.specs.List.{AllByRecursion}
+use Rattle.std.proofs.lemmas.List.{append-nil}
 use Rattle.std.proofs.lemmas.List.Elements.{Contains-append_left, Contains-append_right, Contains-append_cases, Contains-push}
 use Rattle.std.proofs.lemmas.List.Folds.{list_any-append}
-use Rattle.std.proofs.lemmas.Bool.{or_cases, eq-eqb, eqb-true, cases_Bool, false≢true}
+use Rattle.std.proofs.lemmas.Bool.{or_cases, eqb-true, false≢true}
 use Rattle.outside.specs.declared.event.RawRow.{RawRow}
 use Rattle.catalog.specs.declared.stream.ConfStream.{ConfStream}
 use Rattle.load_rules.specs.Prefixes.{EachFits}
 use Rattle.load_rules.specs.Lines.{Line}
-use Rattle.load_rules.specs.Taken.{Entry, entries, entries_from, LaneState, is_in}
+use Rattle.load_rules.specs.Taken.{Entry, entries, entries_from, is_in}
 use Rattle.load_rules.specs.Loads.{Opening}
 use Rattle.load_rules.specs.Rows.{IsRowOf}
 use Rattle.load_rules.specs.Acts.{Act, Takes, Ends, Commits, Echoes, Turns, taken, committed}

@@ -1,10 +1,10 @@
 -- What the states that come back take.
-use Rattle.std.proofs.Common.{rules, arith, ◌≡◌, ◌≢◌, ◌⊎◌, inl, inr, ℕ, ◌+◌, ◌<◌, ◌≤◌, ◌^◌, List, [], ◌∷◌, ◌++◌, map, length, Option, None, Some, Bool, true, false, cond, refl, sym, ◌∙◌, ap, subst, append_assoc, length-append}
-use Rattle.std.specs.Prelude.{filter, filter_map, fold, not, Contains}
+use Rattle.std.proofs.Common.{arith, ◌≡◌, ◌≢◌, ◌⊎◌, inl, inr, ℕ, ◌+◌, ◌<◌, ◌≤◌, ◌^◌, List, [], ◌∷◌, ◌++◌, length, Option, None, Some, Bool, true, false, cond, refl, sym, ◌∙◌, ap, subst, append_assoc, length-append}
+use Rattle.std.specs.Prelude.{fold}
 use Rattle.std.specs.List.{AllByRecursion}
 use Rattle.std.proofs.lemmas.List.{append-nil}
 use Rattle.std.proofs.lemmas.List.Elements.{filter-append}
-use Rattle.std.proofs.lemmas.Bool.{cases_Bool, false≢true}
+use Rattle.std.proofs.lemmas.Bool.{cases_Bool}
 use Rattle.outside.specs.declared.event.Event.{Event}
 use Rattle.outside.specs.declared.event.Event.TheVariants.{Opened, Took, TookEnd, Committed, Emitted, Merged, Shown, Started, ReadLine, ReadEnd, Given, Closed, Got, GotEnd, Saved, Ended}
 use Rattle.json_fields.specs.Answer.{IsAnswer}
@@ -23,10 +23,10 @@ use Rattle.airbyte_message.specs.declared.read.MessageType.TheVariants as types
 use Rattle.airbyte_message.proofs.EchoBack.{echo_back}
 use Rattle.load_rules.specs.Prefixes.{IsPrefix}
 use Rattle.load_rules.specs.Lines.{Line, Reading, line_read, lines_read, ReadsText, record_in, state_in}
-use Rattle.load_rules.specs.Taken.{LaneState, state_of, state_of_lane, states, states_behind, of_lane, is_same_lane, count_of, since, counts_record, counts_state, covers, is_of_lane}
-use Rattle.load_rules.specs.Attempts.{Waiting, none_given, with_given, TakesFirst, StateLeaves, LineLeaves, Leaves, LeavesAll, gives, gots}
+use Rattle.load_rules.specs.Taken.{LaneState, state_of, state_of_lane, states, states_behind, of_lane, is_same_lane, count_of, counts_record, counts_state, covers, is_of_lane}
+use Rattle.load_rules.specs.Attempts.{Waiting, none_given, with_given, TakesFirst, StateLeaves, LineLeaves, LeavesAll, gives, gots}
 use Rattle.load_rules.proofs.TakenLists.{states-append, all_append}
-use Rattle.load_rules.proofs.Machines.{states-one, lane_own, lane_is}
+use Rattle.load_rules.proofs.Machines.{states-one}
 use Rattle.load_rules.proofs.Pipes.{AreEchoes}
 
 -- States that were read right

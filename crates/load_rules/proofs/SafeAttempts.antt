@@ -1,11 +1,11 @@
 -- Each attempt of a run of the engine is a safe destination by itself.
-use Rattle.std.proofs.Common.{rules, arith, ◌≡◌, ◌⊎◌, inl, inr, ℕ, List, [], ◌∷◌, ◌++◌, Bool, true, false, cond, refl, sym, ◌∙◌, ap, subst, append_assoc}
+use Rattle.std.proofs.Common.{arith, ◌≡◌, ◌⊎◌, inl, inr, ℕ, List, [], ◌∷◌, ◌++◌, Bool, true, false, cond, refl, sym, ◌∙◌, ap, subst, append_assoc}
 use Rattle.std.specs.Prelude.{filter, fold, not}
 use Rattle.std.specs.List.{AllByRecursion, take_while, list_any}
 use Rattle.std.proofs.lemmas.List.{append-nil}
 use Rattle.std.proofs.lemmas.List.Elements.{filter-append}
 use Rattle.std.proofs.lemmas.List.Sums.{fold-append, take_while-cons}
-use Rattle.std.proofs.lemmas.Bool.{cases_Bool, false≢true}
+use Rattle.std.proofs.lemmas.Bool.{false≢true}
 use Rattle.outside.specs.Event.{is_links}
 use Rattle.outside.specs.declared.event.Event.{Event}
 use Rattle.outside.specs.declared.event.Event.TheVariants.{Opened, Took, TookEnd, Committed, Emitted, Merged, Shown, Started, ReadLine, ReadEnd, Given, Closed, Got, GotEnd, Saved, Ended}
@@ -13,13 +13,13 @@ use Rattle.outside.specs.declared.event.StreamPlan.{StreamPlan}
 use Rattle.catalog.specs.declared.stream.ConfStream.{ConfStream}
 use Rattle.load_rules.specs.Prefixes.{EachFits, with_first}
 use Rattle.load_rules.specs.Lines.{Reading}
-use Rattle.load_rules.specs.Loads.{Load, loads, loads_after, with_event, store_events, is_opened, unopened}
+use Rattle.load_rules.specs.Loads.{Load, loads, loads_after, with_event, store_events, is_opened}
 use Rattle.load_rules.specs.SafeDest.{IsSafeLoad, IsSafeDest}
 use Rattle.load_rules.specs.Attempts.{Attempt, attempts, attempts_after, attempt_with}
 use Rattle.load_rules.specs.Engine.{OpensFirst, HasOpened, RunFitsIn, RunFits}
 use Rattle.load_rules.specs.Laws.{IsSafeAttempt, AttemptsAreSafe}
 use Rattle.load_rules.proofs.TakenLists.{each_more}
-use Rattle.load_rules.proofs.LoadFronts.{loads-append, goes_on, fronts_are_safe}
+use Rattle.load_rules.proofs.LoadFronts.{goes_on, fronts_are_safe}
 
 store_more : (events : List Event) (event : Event) → store_events (events ++ event ∷ []) ≡ store_events events ++ cond (not (is_links event)) (event ∷ []) []
 store_more events event = filter-append (λ it. not (is_links it)) events (event ∷ [])

@@ -1,11 +1,9 @@
 -- A commit that keeps a trace safe has the number of its load, and new sequences.
-use Rattle.std.proofs.Common.{rules, arith, ◌≡◌, ◌⊎◌, inl, inr, ℕ, ◌+◌, ◌<◌, ◌≤◌, eqb, List, [], ◌∷◌, ◌++◌, map, Option, None, Some, Bool, true, false, cond, refl, sym, ◌∙◌, ap, subst}
+use Rattle.std.proofs.Common.{arith, ◌≡◌, ℕ, ◌+◌, ◌<◌, List, [], ◌∷◌, ◌++◌, map, Option, None, Some, Bool, true, false, cond, refl, sym, ◌∙◌, ap, subst}
 use Rattle.std.specs.Prelude.{filter, fold, not, flat_map}
-use Rattle.std.specs.List.{AllByRecursion, take_while, list_any}
-use Rattle.std.proofs.lemmas.List.{map-append}
+use Rattle.std.specs.List.{AllByRecursion, take_while}
 use Rattle.std.proofs.lemmas.List.Sums.{take_while-cons}
-use Rattle.std.proofs.lemmas.Bool.{cases_Bool, false≢true, ne_eqb}
-use Rattle.outside.specs.Event.{is_links}
+use Rattle.std.proofs.lemmas.Bool.{false≢true, ne_eqb}
 use Rattle.outside.specs.Tables.{tables_of, tables_after, tables_committed, tables_merged, tables_shown, plan_at, no_tables}
 use Rattle.outside.specs.declared.event.Event.{Event}
 use Rattle.outside.specs.declared.event.Event.TheVariants.{Opened, Took, TookEnd, Committed, Emitted, Merged, Shown, Started, ReadLine, ReadEnd, Given, Closed, Got, GotEnd, Saved, Ended}
@@ -16,9 +14,9 @@ use Rattle.catalog.specs.declared.stream.ConfStream.{ConfStream}
 use Rattle.load_rules.specs.Prefixes.{EachFits, with_first}
 use Rattle.load_rules.specs.Lines.{Reading}
 use Rattle.load_rules.specs.Taken.{Entry, entries, is_in}
-use Rattle.load_rules.specs.Loads.{Opening, Load, loads, loads_after, with_event, store_events, is_opened, unopened, committed_rows, committed_in}
+use Rattle.load_rules.specs.Loads.{Opening, Load, loads, loads_after, with_event, store_events, is_opened, committed_rows, committed_in}
 use Rattle.load_rules.specs.Acts.{Act, Takes, Ends, Commits, Echoes, Turns, IsAct, AreActs, taken, rows_of, committed}
-use Rattle.load_rules.specs.SafeDest.{uncommitted, AreRowsOf, CommitFits, Fits, IsSafeLoad, IsSafeDest}
+use Rattle.load_rules.specs.SafeDest.{uncommitted, AreRowsOf, CommitFits, Fits, IsSafeLoad}
 use Rattle.load_rules.specs.Stores.{AreNew, last_committed, CommittedFits}
 use Rattle.load_rules.specs.Laws.{SafeCommitsFit}
 use Rattle.load_rules.proofs.Fronts.{each_at}

@@ -1,27 +1,25 @@
 -- Every run of the machine leaves a safe load.
-use Rattle.std.proofs.Common.{rules, arith, tests, ◌≡◌, ◌⊎◌, inl, inr, ℕ, ◌+◌, ◌<◌, ◌≤◌, eqb, List, [], ◌∷◌, ◌++◌, map, length, Option, None, Some, Bool, true, false, cond, refl, sym, ◌∙◌, ap, subst, append_assoc, length-append}
-use Rattle.std.specs.Prelude.{filter, not, ◌||◌, ◌&&◌, find, slice_get, Contains}
-use Rattle.std.specs.List.{AllByRecursion, list_any, list_all}
-use Rattle.std.proofs.lemmas.List.{append-nil, map-append}
+use Rattle.std.proofs.Common.{arith, ◌≡◌, ◌⊎◌, inl, inr, ℕ, ◌+◌, eqb, List, [], ◌∷◌, ◌++◌, map, length, Option, None, Some, Bool, true, false, cond, refl, sym, ◌∙◌, ap, subst, length-append}
+use Rattle.std.specs.Prelude.{filter, not, ◌&&◌, find, slice_get, Contains}
+use Rattle.std.specs.List.{AllByRecursion, list_all}
 use Rattle.std.proofs.lemmas.List.Elements.{Contains-append_left, Contains-append_right, Contains-append_cases, Contains-push, Contains-push_cases}
-use Rattle.std.proofs.lemmas.Grind.{common_steps}
 use Rattle.std.proofs.lemmas.Option.{slice_get-get_or}
 use Rattle.std.proofs.Math.Seq.{get_or-append_seam}
-use Rattle.std.proofs.lemmas.Bool.{and_parts, eq-eqb, eqb-true, cases_Bool, false≢true, or_right}
+use Rattle.std.proofs.lemmas.Bool.{and_parts, eq-eqb, false≢true, or_right}
 use Rattle.basics.specs.declared.stream.StreamId.{StreamId}
 use Rattle.outside.specs.Tables.{same_id}
 use Rattle.outside.specs.declared.event.RawRow.{RawRow}
 use Rattle.catalog.specs.declared.stream.ConfStream.{ConfStream}
 use Rattle.load_rules.specs.Prefixes.{EachFits}
-use Rattle.load_rules.specs.Taken.{Entry, entries, entries_from, LaneState, states, of_lane, covered, is_in, without}
+use Rattle.load_rules.specs.Taken.{Entry, entries, entries_from, LaneState, of_lane, covered, is_in}
 use Rattle.load_rules.specs.Loads.{Opening}
 use Rattle.load_rules.specs.Rows.{IsRowOf}
 use Rattle.load_rules.specs.Acts.{Act, Takes, Ends, Commits, Echoes, Turns, taken, committed, echoed}
 use Rattle.load_rules.specs.SafeDest.{uncommitted, AreRowsOf, CommitFits, EchoFits, Fits}
-use Rattle.load_rules.specs.Machine.{Placed, Machine, Step, Accept, End, Seal, HandOut, Commit, TakeBack, Release, Turn, start, is_out, is_done, is_of, is_in_batch, entry_of, in_batch, is_releasable, without_first, accepts, commits, releases, hands_out, commits_at, happens, run, KeepsSequences, AreRows}
+use Rattle.load_rules.specs.Machine.{Placed, Machine, Step, Accept, End, Seal, HandOut, Commit, TakeBack, Release, Turn, start, is_out, is_done, is_of, is_in_batch, entry_of, in_batch, is_releasable, without_first, commits, releases, hands_out, commits_at, happens, run, KeepsSequences, AreRows}
 use Rattle.load_rules.specs.Laws.{RunsAreSafe}
 use Rattle.load_rules.proofs.TakenLists.{entries-append, each_more, all_both, filter_twice}
-use Rattle.load_rules.proofs.Machines.{IsMarked, IsGood, LaneStands, seqs, seqs-rows, picked_is, numbered_placed, good_step, good_start, taken-more, commit_taken, echo_taken, found_passes, with_commit, out_is_not_done, first_of_lane}
+use Rattle.load_rules.proofs.Machines.{IsMarked, IsGood, seqs, seqs-rows, picked_is, numbered_placed, good_step, good_start, taken-more, commit_taken, found_passes, with_commit, out_is_not_done, first_of_lane}
 
 abbrev pub IsSafeRun : List ConfStream → Opening → (ℕ → Entry → RawRow) → List Act → Type 0
 IsSafeRun streams opening row acts = AreRows streams opening row acts → EachFits (Fits streams opening) [] acts

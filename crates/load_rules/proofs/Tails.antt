@@ -1,6 +1,6 @@
 -- Sealed records of a stream stand in front of unsealed ones.
-use Rattle.std.proofs.Common.{arith, ◌≡◌, ◌⊎◌, inl, inr, ℕ, ◌+◌, ◌-◌, ◌<◌, ◌≤◌, zero, suc, eqb, ltb, List, [], ◌∷◌, ◌++◌, map, length, Option, None, Some, Bool, true, false, cond, refl, sym, ◌∙◌, ap, subst}
-use Rattle.std.specs.Prelude.{filter, not, ◌&&◌, find, slice_get}
+use Rattle.std.proofs.Common.{arith, ◌≡◌, ◌⊎◌, inl, inr, ℕ, ◌-◌, zero, suc, ltb, List, [], ◌∷◌, ◌++◌, map, length, Option, None, Some, Bool, true, false, cond, refl, sym, ◌∙◌, ap, subst}
+use Rattle.std.specs.Prelude.{filter, ◌&&◌, find, slice_get}
 use Rattle.std.specs.List.{AllByRecursion}
 use Rattle.std.proofs.lemmas.List.{map-append}
 use Rattle.std.proofs.lemmas.List.Elements.{filter-append}
@@ -11,7 +11,7 @@ use Rattle.outside.specs.declared.event.RawRow.{RawRow}
 use Rattle.outside.proofs.TableLaws.{id_own, id_is}
 use Rattle.catalog.specs.declared.stream.ConfStream.{ConfStream}
 use Rattle.load_rules.specs.Taken.{Entry, entries_from, LaneState}
-use Rattle.load_rules.specs.Machine.{Place, Queued, Sealed, Out, Done, Placed, Machine, Step, Accept, End, Seal, HandOut, Commit, TakeBack, Release, Turn, start, queue, is_out, is_sealed, is_queued, is_of, put_in, move, move_first, is_in_batch, in_batch, is_queued_of, is_sealed_of, is_releasable, commits, commits_at, releases, hands_out, happens, run, is_unsealed, flags, IsTail}
+use Rattle.load_rules.specs.Machine.{Place, Queued, Sealed, Out, Done, Placed, Machine, Step, Accept, End, Seal, HandOut, Commit, TakeBack, Release, Turn, start, queue, is_out, is_sealed, is_queued, is_of, move, move_first, is_in_batch, in_batch, is_queued_of, is_sealed_of, is_releasable, commits, commits_at, releases, hands_out, happens, run, is_unsealed, flags, IsTail}
 use Rattle.load_rules.specs.Laws.{SealedInFront}
 
 tail_append : (xs ys : List Bool) → IsTail xs → AllByRecursion (λ x. x ≡ true) ys → IsTail (xs ++ ys)

@@ -1,20 +1,15 @@
 -- Records and states among lines that go on.
-use Rattle.std.proofs.Common.{rules, arith, tests, ◌≡◌, ◌⊎◌, inl, inr, ℕ, ◌+◌, ◌<◌, ◌≤◌, eqb, List, [], ◌∷◌, ◌++◌, map, length, Option, None, Some, Bool, true, false, cond, refl, sym, ◌∙◌, ap, subst, append_assoc, length-append}
-use Rattle.std.specs.Prelude.{filter, filter_map, flat_map, not, ◌||◌, ◌&&◌}
-use Rattle.std.specs.List.{AllByRecursion, list_any, list_all}
+use Rattle.std.proofs.Common.{arith, ◌≡◌, ℕ, ◌+◌, List, [], ◌∷◌, ◌++◌, map, length, Option, None, Some, Bool, refl, sym, ◌∙◌, ap, subst, append_assoc}
+use Rattle.std.specs.Prelude.{filter, ◌&&◌}
+use Rattle.std.specs.List.{AllByRecursion, list_all}
 use Rattle.std.proofs.lemmas.List.{append-nil, map-append}
-use Rattle.std.proofs.lemmas.List.Elements.{filter_map-append, filter-append}
-use Rattle.std.proofs.lemmas.List.Folds.{list_any-append, list_all-append}
-use Rattle.std.proofs.lemmas.Grind.{flat_map-append, common_steps}
-use Rattle.std.proofs.lemmas.Bool.{cases_Bool, false≢true, ne_eqb}
-use Rattle.basics.specs.declared.stream.StreamId.{StreamId}
-use Rattle.outside.specs.declared.event.RawRow.{RawRow}
+use Rattle.std.proofs.lemmas.List.Elements.{filter-append}
+use Rattle.std.proofs.lemmas.List.Folds.{list_all-append}
 use Rattle.airbyte_message.specs.Lanes.{Lane}
-use Rattle.airbyte_message.specs.State.{State}
 use Rattle.airbyte_message.specs.declared.message.RecordMsg.{RecordMsg}
 use Rattle.load_rules.specs.Lines.{Line, record_in, state_in}
-use Rattle.load_rules.specs.Taken.{Entry, and_record, entries_from, entries, LaneState, state_of, states_behind, states, of_lane, covers, covered, is_in}
-use Rattle.load_rules.specs.Prefixes.{EachFits, IsPrefix}
+use Rattle.load_rules.specs.Taken.{Entry, and_record, entries_from, entries, state_of, states_behind, covers, is_in}
+use Rattle.load_rules.specs.Prefixes.{EachFits}
 
 pub entries-append : (seq : ℕ) (xs ys : List Line) → entries_from seq (xs ++ ys) ≡ entries_from seq xs ++ entries_from (seq + length (entries_from seq xs)) ys
 entries-append seq [] ys = grind arith

@@ -1,5 +1,5 @@
 -- Lines, each with the message that it is read as.
-use Rattle.std.specs.Prelude.{ℕ, List, [], map, Bool, true, false, Option, None, Some}
+use Rattle.std.specs.Prelude.{ℕ, List, map, Bool, true, false, Option, None, Some}
 use Rattle.std.specs.List.{AllByRecursion, list_any}
 use Rattle.basics.specs.declared.stream.StreamId.{StreamId}
 use Rattle.json_fields.specs.Answer.{IsAnswer}

@@ -1,16 +1,16 @@
 -- The machine behind a load, which may do its steps in any order and with any choice. It keeps a place for each record; what is
 -- committed and what was echoed is read off the load.
-use Rattle.std.specs.Prelude.{◌≡◌, ℕ, ◌-◌, ◌==◌, List, [], ◌∷◌, ◌++◌, map, filter, filter_map, find, length, slice_get, Bool, true, false, ◌&&◌, not, if◌then◌else◌, nat_lt, Option, None, Some, Contains}
+use Rattle.std.specs.Prelude.{◌≡◌, ℕ, ◌-◌, ◌==◌, List, [], ◌∷◌, ◌++◌, map, filter, filter_map, find, length, slice_get, Bool, true, false, ◌&&◌, if◌then◌else◌, nat_lt, Option, None, Some, Contains}
 use Rattle.std.specs.List.{AllByRecursion, list_all}
 use Rattle.basics.specs.declared.stream.StreamId.{StreamId}
 use Rattle.outside.specs.Tables.{same_id}
 use Rattle.outside.specs.declared.event.RawRow.{RawRow}
 use Rattle.catalog.specs.declared.stream.ConfStream.{ConfStream}
-use Rattle.load_rules.specs.Lines.{Line, record_in, state_in}
+use Rattle.load_rules.specs.Lines.{Line, state_in}
 use Rattle.load_rules.specs.Taken.{Entry, entries, entries_from, LaneState, state_of, covered, is_in}
 use Rattle.load_rules.specs.Loads.{Opening}
 use Rattle.load_rules.specs.Rows.{IsRowOf}
-use Rattle.load_rules.specs.Acts.{Act, Takes, Ends, Commits, Echoes, Turns, taken, committed, rows_of}
+use Rattle.load_rules.specs.Acts.{Act, Takes, Ends, Commits, Echoes, Turns, taken, committed}
 
 -- where a record is: in its stream's queue, sealed there or not, in a batch that is handed out, or committed
 pub data Place : Type 0 where

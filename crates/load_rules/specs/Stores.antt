@@ -1,5 +1,5 @@
 -- How the events of a store fit one another, whatever the catalogs of its loads: each behind those before it.
-use Rattle.std.specs.Prelude.{◌≡◌, ℕ, ◌<◌, List, [], ◌∷◌, map, Bool, true, false, nat_lt, Some}
+use Rattle.std.specs.Prelude.{◌≡◌, ℕ, ◌<◌, List, [], ◌∷◌, map, true, false, nat_lt, Some}
 use Rattle.std.specs.List.{AllByRecursion}
 use Rattle.outside.specs.Dock.{HasOwnIds}
 use Rattle.outside.specs.Tables.{tables_of, plan_at}
