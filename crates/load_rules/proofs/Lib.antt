@@ -1,0 +1,15 @@
+pub mod Fronts
+pub mod LoadFronts
+pub mod RunFronts
+pub mod HonestAdds
+pub mod TakenLists
+pub mod Machines
+pub mod Drained
+pub mod SafeRuns
+pub mod Tails
+pub mod OwnRows
+pub mod SafeAttempts
+pub mod SafeCommits
+pub mod Pipes
+pub mod Returns
+pub mod Honesty

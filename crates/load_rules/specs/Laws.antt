@@ -1,0 +1,148 @@
+-- What holds of each load, of each run of the machine, and of the attempts of a trace.
+use Rattle.std.specs.Prelude.{◌≡◌, ℕ, ◌<◌, ◌^◌, List, [], ◌∷◌, ◌++◌, length, Bool, not, true, false, Contains, ◌↔◌}
+use Rattle.std.specs.List.{AllByRecursion, take_while}
+use Rattle.basics.specs.declared.stream.StreamId.{StreamId}
+use Rattle.outside.specs.declared.event.Event.{Event}
+use Rattle.outside.specs.declared.event.Event.TheVariants as event
+use Rattle.outside.specs.declared.event.RawRow.{RawRow}
+use Rattle.catalog.specs.declared.stream.ConfStream.{ConfStream}
+use Rattle.airbyte_message.specs.Lanes.{Lane, LaneCovers}
+use Rattle.dedup_merge.specs.Merges.{MergesFit}
+use Rattle.load_rules.specs.Prefixes.{EachFits, IsPrefix}
+use Rattle.load_rules.specs.Lines.{Reading, IsReading}
+use Rattle.load_rules.specs.Taken.{Entry, entries, covers, is_in}
+use Rattle.load_rules.specs.Loads.{Opening, Load, loads, is_opened, tooks}
+use Rattle.load_rules.specs.Rows.{IsRowOf}
+use Rattle.load_rules.specs.Acts.{Act, Commits, taken, committed, echoed}
+use Rattle.load_rules.specs.SafeDest.{Fits, IsSafeLoad, IsSafeDest}
+use Rattle.load_rules.specs.Stores.{CommittedFits, IsStoreRun}
+use Rattle.load_rules.specs.Attempts.{Attempt, attempts, gives, gots, emits}
+use Rattle.load_rules.specs.Honest.{IsHonestAttempt, AddsHonestly}
+use Rattle.load_rules.specs.Engine.{OpensFirst, IsEngineRun}
+use Rattle.load_rules.specs.Machine.{Step, start, run, accepted, KeepsSequences, AreRows, IsDrained, flags, IsTail}
+
+-- The machine
+
+-- Every run from the empty state: each emitted state is the next of its lane, with its count, and everything before it was
+-- committed earlier; each commit is of rows of records that were accepted earlier, and none twice.
+abbrev pub RunsAreSafe : Type 0
+RunsAreSafe =
+    (streams : List ConfStream) (opening : Opening) (row : ℕ → Entry → RawRow) (steps : List Step)
+    → KeepsSequences row → AreRows streams opening row (run streams row steps start).acts → EachFits (Fits streams opening) [] (run streams row steps start).acts
+
+-- Where nothing is queued or handed out and no state is releasable, no state waits.
+abbrev pub NoStateIsLeft : Type 0
+NoStateIsLeft =
+    (streams : List ConfStream) (row : ℕ → Entry → RawRow) (steps : List Step)
+    → KeepsSequences row → IsDrained (run streams row steps start) → (run streams row steps start).waiting ≡ []
+
+pub record EndAlike (first second : List Act) : Type 0 where
+  pub committed_alike : (seq : ℕ) → is_in seq (committed first) ≡ is_in seq (committed second)
+  pub echoed_alike : (lane : Lane) → echoed lane first ≡ echoed lane second
+
+-- Two runs that accept the same lines and both end so have committed the same, and emitted the same for each lane, whatever
+-- order their other steps took.
+abbrev pub OrderIsFree : Type 0
+OrderIsFree =
+    (streams : List ConfStream) (row : ℕ → Entry → RawRow) (first second : List Step)
+    → KeepsSequences row → accepted first ≡ accepted second
+    → IsDrained (run streams row first start) → IsDrained (run streams row second start)
+    → EndAlike (run streams row first start).acts (run streams row second start).acts
+
+-- sealed records of a stream stand in front of unsealed ones, whatever was handed out and taken back
+abbrev pub SealedInFront : Type 0
+SealedInFront = (streams : List ConfStream) (row : ℕ → Entry → RawRow) (steps : List Step) (id : StreamId) → IsTail (flags id (run streams row steps start).placed)
+
+-- Loads
+
+-- a lane covers a stream's records where a state of that lane covers them
+abbrev pub LanesCover : Type 0
+LanesCover = (lane : Lane) (stream : StreamId) → (covers lane stream ≡ true) ↔ LaneCovers lane stream
+
+-- each prefix of what fits event by event fits, and its last event fits those before it
+abbrev pub PrefixesFit : Type 0
+PrefixesFit =
+    (streams : List ConfStream) (opening : Opening) (front rest : List Act) (act : Act)
+    → EachFits (Fits streams opening) [] (front ++ act ∷ rest) → Fits streams opening front act × EachFits (Fits streams opening) [] (front ++ act ∷ [])
+
+abbrev pub FrontsAreSafe : Type 0
+FrontsAreSafe = (streams : List ConfStream) (read : Reading) (front rest : List Event) → IsSafeDest streams read (front ++ rest) → IsSafeDest streams read front
+
+-- a run of the engine is one in every prefix
+abbrev pub FrontsAreRuns : Type 0
+FrontsAreRuns = (streams : List ConfStream) (read : Reading) (front rest : List Event) → IsEngineRun streams read (front ++ rest) → IsEngineRun streams read front
+
+-- the last load, where there is one, is safe
+abbrev pub IsSafeLast : List ConfStream → Reading → List Load → Type 0
+IsSafeLast streams read [] = ⊥
+IsSafeLast streams read (load ∷ older) = IsSafeLoad streams read load
+
+abbrev pub OpensNothing : List Event → Type 0
+OpensNothing more = AllByRecursion (λ event. is_opened event ≡ false) more
+
+-- a safe trace stays one where its last load goes on safely
+abbrev pub StaysSafe : Type 0
+StaysSafe =
+    (streams : List ConfStream) (read : Reading) (trace more : List Event)
+    → IsSafeDest streams read trace → OpensNothing more → IsSafeLast streams read (loads (trace ++ more)) → IsSafeDest streams read (trace ++ more)
+
+-- where the sequence of a record of a load is committed, its own row is, in a commit of its stream
+pub record IsOwnRow (streams : List ConfStream) (opening : Opening) (acts : List Act) (entry : Entry) : Type 0 where
+  pub number : ℕ
+  pub rows : List RawRow
+  pub commit : Contains acts (Commits number rows)
+  pub row : RawRow
+  pub among : Contains rows row
+  pub is : IsRowOf streams opening number entry row
+
+abbrev pub RowsAreOwn : Type 0
+RowsAreOwn =
+    (streams : List ConfStream) (opening : Opening) (acts : List Act) (entry : Entry)
+    → EachFits (Fits streams opening) [] acts → Contains (entries (taken acts)) entry → is_in entry.seq (committed acts) ≡ true
+    → IsOwnRow streams opening acts entry
+
+-- the merges of a store whose events fit one another fit
+abbrev pub StoreMergesFit : Type 0
+StoreMergesFit = (trace : List Event) → IsStoreRun trace → MergesFit trace
+
+-- a commit that keeps a trace safe has the number of its load, and sequences that are new in it
+abbrev pub SafeCommitsFit : Type 0
+SafeCommitsFit =
+    (streams : List ConfStream) (read : Reading) (before : List Event) (number : ℕ) (rows : List RawRow)
+    → IsSafeDest streams read (before ++ event.Committed number rows ∷ []) → CommittedFits before rows
+
+-- Attempts
+
+-- Lines through two pipes, whole: what the destination takes was given, and what comes back was emitted, in order.
+abbrev pub PipeFits : List Event → Event → Type 0
+PipeFits before (event.Took text) = IsPrefix (tooks before ++ text ∷ []) (gives before)
+PipeFits before (event.Got text) = IsPrefix (gots before ++ text ∷ []) (emits before)
+PipeFits before event = Unit {0}
+
+-- whole lines through two pipes to a safe destination make an honest attempt
+abbrev pub PipesAreHonest : Type 0
+PipesAreHonest =
+    (streams : List ConfStream) (read : Reading) (attempt : Attempt)
+    → IsReading read attempt.events → length attempt.events < 2 ^ 64
+    → IsSafeDest streams read attempt.events → EachFits OpensFirst [] attempt.events → EachFits PipeFits [] attempt.events
+    → IsHonestAttempt streams read attempt
+
+-- An attempt of a run of the engine, by itself: a safe destination that opens one load, and does all else behind it.
+pub record IsSafeAttempt (streams : List ConfStream) (read : Reading) (attempt : Attempt) : Type 0 where
+  pub safe : IsSafeDest streams read attempt.events
+  pub opens : EachFits OpensFirst [] attempt.events
+
+abbrev pub AttemptsAreSafe : Type 0
+AttemptsAreSafe = (streams : List ConfStream) (read : Reading) (trace : List Event) → IsEngineRun streams read trace → AllByRecursion (IsSafeAttempt streams read) (attempts trace)
+
+abbrev pub is_started : Event → Bool
+is_started (event.Started plan) = true
+is_started event = false
+
+-- Where each attempt that the added events begin is honest, and nothing comes back before the first of them, the events add
+-- honestly, whatever was before.
+abbrev pub HonestAttemptsAdd : Type 0
+HonestAttemptsAdd =
+    (streams : List ConfStream) (read : Reading) (before more : List Event)
+    → gots (take_while (λ event. not (is_started event)) more) ≡ [] → AllByRecursion (IsHonestAttempt streams read) (attempts more)
+    → AddsHonestly streams read before more

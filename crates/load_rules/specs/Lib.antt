@@ -1,0 +1,16 @@
+pub mod Prefixes
+pub mod Lines
+pub mod Taken
+pub mod Loads
+pub mod Rows
+pub mod Acts
+pub mod SafeDest
+pub mod Bounded
+pub mod Marks
+pub mod Stores
+pub mod Finished
+pub mod Attempts
+pub mod Honest
+pub mod Engine
+pub mod Machine
+pub mod Laws

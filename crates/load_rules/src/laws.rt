@@ -1,0 +1,77 @@
+// The laws of loads, each as the contract of a function that does nothing.
+ghost use Rattle.load_rules.specs.Laws.{AttemptsAreSafe, FrontsAreRuns, FrontsAreSafe, HonestAttemptsAdd, LanesCover, NoStateIsLeft, OrderIsFree, PipesAreHonest, PrefixesFit, RowsAreOwn, RunsAreSafe, SafeCommitsFit, SealedInFront, StaysSafe, StoreMergesFit};
+
+/// Whatever the machine does, its load is safe.
+pub fn runs_are_safe()
+    ensures { RunsAreSafe }
+{}
+
+/// What fits event by event fits in every prefix.
+pub fn prefixes_fit()
+    ensures { PrefixesFit }
+{}
+
+/// Each prefix of a safe trace is safe.
+pub fn fronts_are_safe()
+    ensures { FrontsAreSafe }
+{}
+
+/// Each prefix of a run of the engine is one.
+pub fn fronts_are_runs()
+    ensures { FrontsAreRuns }
+{}
+
+/// A safe trace stays one where its last load goes on safely.
+pub fn stays_safe()
+    ensures { StaysSafe }
+{}
+
+/// A run that has drained leaves no state behind.
+pub fn no_state_is_left()
+    ensures { NoStateIsLeft }
+{}
+
+/// Two runs that accept the same and have drained end alike.
+pub fn order_is_free()
+    ensures { OrderIsFree }
+{}
+
+/// Sealed records of a stream stand in front of unsealed ones.
+pub fn sealed_in_front()
+    ensures { SealedInFront }
+{}
+
+/// Where the sequence of a record is committed, its own row is.
+pub fn rows_are_own()
+    ensures { RowsAreOwn }
+{}
+
+/// Whole lines through two pipes to a safe destination make an honest attempt.
+pub fn pipes_are_honest()
+    ensures { PipesAreHonest }
+{}
+
+/// A lane covers a stream's records where a state of that lane covers them.
+pub fn lanes_cover()
+    ensures { LanesCover }
+{}
+
+/// The merges of a store whose events fit one another fit.
+pub fn store_merges_fit()
+    ensures { StoreMergesFit }
+{}
+
+/// A commit that keeps a trace safe has the number of its load, and new sequences.
+pub fn safe_commits_fit()
+    ensures { SafeCommitsFit }
+{}
+
+/// Each attempt of a run of the engine is a safe destination by itself.
+pub fn attempts_are_safe()
+    ensures { AttemptsAreSafe }
+{}
+
+/// Honest attempts add honestly, whatever was before.
+pub fn honest_attempts_add()
+    ensures { HonestAttemptsAdd }
+{}
