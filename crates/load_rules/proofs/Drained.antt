@@ -13,7 +13,7 @@ use Rattle.load_rules.specs.Lines.{Line}
 use Rattle.load_rules.specs.Taken.{Entry, entries, LaneState, states, of_lane, covers, is_in}
 use Rattle.load_rules.specs.Acts.{Act, Takes, Ends, Commits, Echoes, Turns, taken, committed, echoed}
 use Rattle.load_rules.specs.Machine.{Placed, Machine, Step, Accept, End, Seal, HandOut, Commit, TakeBack, Release, Turn, start, is_out, is_done, entry_of, in_batch, is_releasable, commits, releases, hands_out, commits_at, happens, run, accepted, IsDrained}
-use Rattle.load_rules.specs.Laws.{OrderIsFree, NoStateIsLeft}
+use Rattle.load_rules.specs.Laws.{DrainedIsDone, OrderIsFree, NoStateIsLeft}
 use Rattle.load_rules.proofs.TakenLists.{Numbered, numbered, covered_front}
 use Rattle.load_rules.proofs.Machines.{IsMarked, Rising, IsGood, seqs, good_run, good_start, taken-more, commit_taken, echo_taken, length_placed}
 
@@ -133,13 +133,19 @@ run_taken streams row (step ∷ steps) m = run_taken streams row steps (happens 
 pub no_state_is_left : NoStateIsLeft
 no_state_is_left streams row steps keeps d = waits_none (run streams row steps start) (good_run streams row steps start keeps good_start) d
 
+pub drained_is_done : DrainedIsDone
+drained_is_done streams row steps keeps d =
+    let m = run streams row steps start in
+    let g = good_run streams row steps start keeps good_start in
+    record { committed_all = committed_is m g d; echoed_all = echoed_is m g d }
+
 pub order_is_free : OrderIsFree
-order_is_free streams row first second keeps same first_ends second_ends =
+order_is_free streams row other first second keeps other_keeps same first_ends second_ends =
     let f = run streams row first start in
-    let s = run streams row second start in
+    let s = run streams other second start in
     let fg = good_run streams row first start keeps good_start in
-    let sg = good_run streams row second start keeps good_start in
-    let alike : taken f.acts ≡ taken s.acts = run_taken streams row first start ∙ (same ∙ sym (run_taken streams row second start)) in
+    let sg = good_run streams other second start other_keeps good_start in
+    let alike : taken f.acts ≡ taken s.acts = run_taken streams row first start ∙ (same ∙ sym (run_taken streams other second start)) in
     record {
       committed_alike = λ seq. committed_is f fg first_ends seq ∙ (ap (λ lines. is_in seq (seqs (entries lines))) alike ∙ sym (committed_is s sg second_ends seq));
       echoed_alike = λ lane. echoed_is f fg first_ends lane ∙ (ap (λ lines. of_lane lane (states lines)) alike ∙ sym (echoed_is s sg second_ends lane));

@@ -1,8 +1,7 @@
 -- A commit that keeps a trace safe has the number of its load, and new sequences.
 use Rattle.std.proofs.Common.{arith, ◌≡◌, ℕ, ◌+◌, ◌<◌, List, [], ◌∷◌, ◌++◌, map, Option, None, Some, Bool, true, false, cond, refl, sym, ◌∙◌, ap, subst}
 use Rattle.std.specs.Prelude.{filter, fold, not, flat_map}
-use Rattle.std.specs.List.{AllByRecursion, take_while}
-use Rattle.std.proofs.lemmas.List.Sums.{take_while-cons}
+use Rattle.std.specs.List.{AllByRecursion}
 use Rattle.std.proofs.lemmas.Bool.{false≢true, ne_eqb}
 use Rattle.outside.specs.Tables.{tables_of, tables_after, tables_committed, tables_merged, tables_shown, plan_at, no_tables}
 use Rattle.outside.specs.declared.event.Event.{Event}
@@ -14,14 +13,14 @@ use Rattle.catalog.specs.declared.stream.ConfStream.{ConfStream}
 use Rattle.load_rules.specs.Prefixes.{EachFits, with_first}
 use Rattle.load_rules.specs.Lines.{Reading}
 use Rattle.load_rules.specs.Taken.{Entry, entries, is_in}
-use Rattle.load_rules.specs.Loads.{Opening, Load, loads, loads_after, with_event, store_events, is_opened, committed_rows, committed_in}
+use Rattle.load_rules.specs.Loads.{Opening, Load, loads, loads_after, with_event, store_events, committed_rows, committed_in}
 use Rattle.load_rules.specs.Acts.{Act, Takes, Ends, Commits, Echoes, Turns, IsAct, AreActs, taken, rows_of, committed}
 use Rattle.load_rules.specs.SafeDest.{uncommitted, AreRowsOf, CommitFits, Fits, IsSafeLoad}
 use Rattle.load_rules.specs.Stores.{AreNew, last_committed, CommittedFits}
-use Rattle.load_rules.specs.Laws.{SafeCommitsFit}
+use Rattle.load_rules.specs.Laws.{SafeCommitsFit, IsSafeLast}
 use Rattle.load_rules.proofs.Fronts.{each_at}
 use Rattle.load_rules.proofs.TakenLists.{Numbered, numbered}
-use Rattle.load_rules.proofs.SafeAttempts.{store_own, loads_own}
+use Rattle.load_rules.proofs.SafeAttempts.{loads_own}
 
 -- The number of the last load
 
@@ -259,54 +258,12 @@ commit_in streams read before stream rows load older is safe = at split.act spli
     at (Echoes state) is fits = absurd is
     at Turns is fits = absurd is
 
-never_none : (load : Load) (older : List Load) (events : List Event) → fold loads_after (load ∷ older) events ≡ [] → ⊥
-never_none load older [] e = grind (arith, e)
-never_none load older ((Opened x y z) ∷ events) e = never_none (record { opening = record { load = x; moment = y; plan = z }; events = [] }) (load ∷ older) events e
-never_none load older ((Took x) ∷ events) e = never_none (with_event (Took x) load) older events e
-never_none load older (TookEnd ∷ events) e = never_none (with_event TookEnd load) older events e
-never_none load older ((Committed x y) ∷ events) e = never_none (with_event (Committed x y) load) older events e
-never_none load older ((Emitted x) ∷ events) e = never_none (with_event (Emitted x) load) older events e
-never_none load older ((Merged x y z) ∷ events) e = never_none (with_event (Merged x y z) load) older events e
-never_none load older ((Shown x y z) ∷ events) e = never_none (with_event (Shown x y z) load) older events e
-never_none load older ((Started x) ∷ events) e = never_none (with_event (Started x) load) older events e
-never_none load older ((ReadLine x) ∷ events) e = never_none (with_event (ReadLine x) load) older events e
-never_none load older (ReadEnd ∷ events) e = never_none (with_event ReadEnd load) older events e
-never_none load older ((Given x) ∷ events) e = never_none (with_event (Given x) load) older events e
-never_none load older (Closed ∷ events) e = never_none (with_event Closed load) older events e
-never_none load older ((Got x) ∷ events) e = never_none (with_event (Got x) load) older events e
-never_none load older (GotEnd ∷ events) e = never_none (with_event GotEnd load) older events e
-never_none load older ((Saved x) ∷ events) e = never_none (with_event (Saved x) load) older events e
-never_none load older ((Ended x) ∷ events) e = never_none (with_event (Ended x) load) older events e
-
-first_opens : (first : Event) (rest : List Event) → is_opened first ≡ true → fold loads_after [] (first ∷ rest) ≡ [] → ⊥
-first_opens (Opened x y z) rest is e = never_none (record { opening = record { load = x; moment = y; plan = z }; events = [] }) [] rest e
-first_opens (Took x) rest is e = absurd (false≢true is)
-first_opens TookEnd rest is e = absurd (false≢true is)
-first_opens (Committed x y) rest is e = absurd (false≢true is)
-first_opens (Emitted x) rest is e = absurd (false≢true is)
-first_opens (Merged x y z) rest is e = absurd (false≢true is)
-first_opens (Shown x y z) rest is e = absurd (false≢true is)
-first_opens (Started x) rest is e = absurd (false≢true is)
-first_opens (ReadLine x) rest is e = absurd (false≢true is)
-first_opens ReadEnd rest is e = absurd (false≢true is)
-first_opens (Given x) rest is e = absurd (false≢true is)
-first_opens Closed rest is e = absurd (false≢true is)
-first_opens (Got x) rest is e = absurd (false≢true is)
-first_opens GotEnd rest is e = absurd (false≢true is)
-first_opens (Saved x) rest is e = absurd (false≢true is)
-first_opens (Ended x) rest is e = absurd (false≢true is)
-
-opens_is : (b : Bool) (x : Event) (xs : List Event) → cond (not b) (x ∷ xs) [] ≡ [] → b ≡ true
-opens_is true x xs e = refl
-opens_is false x xs e = absurd (grind (arith, e))
-
-some_load : (stored : List Event) (last : Event) → is_opened last ≡ false → take_while (λ it. not (is_opened it)) (stored ++ last ∷ []) ≡ [] → fold loads_after [] stored ≡ [] → ⊥
-some_load [] last not_opened none e = false≢true (sym not_opened ∙ opens_is (is_opened last) last (take_while (λ it. not (is_opened it)) []) (sym (take_while-cons (λ it. not (is_opened it)) last []) ∙ none))
-some_load (first ∷ rest) last not_opened none e = first_opens first rest (opens_is (is_opened first) first (take_while (λ it. not (is_opened it)) (rest ++ last ∷ [])) (sym (take_while-cons (λ it. not (is_opened it)) first (rest ++ last ∷ [])) ∙ none)) e
-
 pub safe_commits_fit : SafeCommitsFit
 safe_commits_fit streams read before stream rows safe = at (loads before) refl
   where
+    last : (list : List Load) → loads before ≡ list → IsSafeLast streams read (loads_after list (Committed stream rows))
+    last list is = subst (IsSafeLast streams read) (loads_own before (Committed stream rows) refl ∙ ap (λ list. loads_after list (Committed stream rows)) is) safe
+
     at : (list : List Load) → loads before ≡ list → CommittedFits before rows
-    at [] is = absurd (some_load (store_events before) (Committed stream rows) refl (ap (take_while (λ it. not (is_opened it))) (sym (store_own before (Committed stream rows) refl)) ∙ safe.opened) is)
-    at (load ∷ older) is = commit_in streams read before stream rows load older is (subst (AllByRecursion (IsSafeLoad streams read)) (loads_own before (Committed stream rows) refl ∙ ap (λ list. loads_after list (Committed stream rows)) is) safe.each).0
+    at [] is = absurd (last [] is)
+    at (load ∷ older) is = commit_in streams read before stream rows load older is (last (load ∷ older) is)

@@ -1,5 +1,5 @@
 -- What holds of each load, of each run of the machine, and of the attempts of a trace.
-use Rattle.std.specs.Prelude.{◌≡◌, ℕ, ◌<◌, ◌^◌, List, [], ◌∷◌, ◌++◌, length, Bool, not, true, false, Contains, ◌↔◌}
+use Rattle.std.specs.Prelude.{◌≡◌, ℕ, ◌<◌, ◌^◌, List, map, [], ◌∷◌, ◌++◌, length, Bool, not, true, false, Contains, ◌↔◌}
 use Rattle.std.specs.List.{AllByRecursion, take_while}
 use Rattle.basics.specs.declared.stream.StreamId.{StreamId}
 use Rattle.outside.specs.declared.event.Event.{Event}
@@ -10,7 +10,7 @@ use Rattle.airbyte_message.specs.Lanes.{Lane, LaneCovers}
 use Rattle.dedup_merge.specs.Merges.{MergesFit}
 use Rattle.load_rules.specs.Prefixes.{EachFits, IsPrefix}
 use Rattle.load_rules.specs.Lines.{Reading, IsReading}
-use Rattle.load_rules.specs.Taken.{Entry, entries, covers, is_in}
+use Rattle.load_rules.specs.Taken.{Entry, entries, covers, is_in, of_lane, states}
 use Rattle.load_rules.specs.Loads.{Opening, Load, loads, is_opened, tooks}
 use Rattle.load_rules.specs.Rows.{IsRowOf}
 use Rattle.load_rules.specs.Acts.{Act, Commits, taken, committed, echoed}
@@ -36,18 +36,30 @@ NoStateIsLeft =
     (streams : List ConfStream) (row : ℕ → Entry → RawRow) (steps : List Step)
     → KeepsSequences row → IsDrained (run streams row steps start) → (run streams row steps start).waiting ≡ []
 
+-- all that was taken is committed and echoed
+pub record IsDone (acts : List Act) : Type 0 where
+  pub committed_all : (seq : ℕ) → is_in seq (committed acts) ≡ is_in seq (map (λ entry. entry.seq) (entries (taken acts)))
+  pub echoed_all : (lane : Lane) → echoed lane acts ≡ of_lane lane (states (taken acts))
+
+-- Where nothing is queued or handed out and no state is releasable, each record that was taken is committed, and each lane's
+-- states are echoed, in their order.
+abbrev pub DrainedIsDone : Type 0
+DrainedIsDone =
+    (streams : List ConfStream) (row : ℕ → Entry → RawRow) (steps : List Step)
+    → KeepsSequences row → IsDrained (run streams row steps start) → IsDone (run streams row steps start).acts
+
 pub record EndAlike (first second : List Act) : Type 0 where
   pub committed_alike : (seq : ℕ) → is_in seq (committed first) ≡ is_in seq (committed second)
   pub echoed_alike : (lane : Lane) → echoed lane first ≡ echoed lane second
 
 -- Two runs that accept the same lines and both end so have committed the same, and emitted the same for each lane, whatever
--- order their other steps took.
+-- order their other steps took, and whatever else than their sequences the rows of each have.
 abbrev pub OrderIsFree : Type 0
 OrderIsFree =
-    (streams : List ConfStream) (row : ℕ → Entry → RawRow) (first second : List Step)
-    → KeepsSequences row → accepted first ≡ accepted second
-    → IsDrained (run streams row first start) → IsDrained (run streams row second start)
-    → EndAlike (run streams row first start).acts (run streams row second start).acts
+    (streams : List ConfStream) (row other : ℕ → Entry → RawRow) (first second : List Step)
+    → KeepsSequences row → KeepsSequences other → accepted first ≡ accepted second
+    → IsDrained (run streams row first start) → IsDrained (run streams other second start)
+    → EndAlike (run streams row first start).acts (run streams other second start).acts
 
 -- sealed records of a stream stand in front of unsealed ones, whatever was handed out and taken back
 abbrev pub SealedInFront : Type 0
@@ -105,11 +117,12 @@ RowsAreOwn =
 abbrev pub StoreMergesFit : Type 0
 StoreMergesFit = (trace : List Event) → IsStoreRun trace → MergesFit trace
 
--- a commit that keeps a trace safe has the number of its load, and sequences that are new in it
+-- A commit that keeps its load safe has the number of that load, and sequences that are new in it, whatever stands before the
+-- load.
 abbrev pub SafeCommitsFit : Type 0
 SafeCommitsFit =
     (streams : List ConfStream) (read : Reading) (before : List Event) (number : ℕ) (rows : List RawRow)
-    → IsSafeDest streams read (before ++ event.Committed number rows ∷ []) → CommittedFits before rows
+    → IsSafeLast streams read (loads (before ++ event.Committed number rows ∷ [])) → CommittedFits before rows
 
 -- Attempts
 

@@ -1,5 +1,5 @@
 // The laws of loads, each as the contract of a function that does nothing.
-ghost use Rattle.load_rules.specs.Laws.{AttemptsAreSafe, FrontsAreRuns, FrontsAreSafe, HonestAttemptsAdd, LanesCover, NoStateIsLeft, OrderIsFree, PipesAreHonest, PrefixesFit, RowsAreOwn, RunsAreSafe, SafeCommitsFit, SealedInFront, StaysSafe, StoreMergesFit};
+ghost use Rattle.load_rules.specs.Laws.{AttemptsAreSafe, DrainedIsDone, FrontsAreRuns, FrontsAreSafe, HonestAttemptsAdd, LanesCover, NoStateIsLeft, OrderIsFree, PipesAreHonest, PrefixesFit, RowsAreOwn, RunsAreSafe, SafeCommitsFit, SealedInFront, StaysSafe, StoreMergesFit};
 
 /// Whatever the machine does, its load is safe.
 pub fn runs_are_safe()
@@ -29,6 +29,11 @@ pub fn stays_safe()
 /// A run that has drained leaves no state behind.
 pub fn no_state_is_left()
     ensures { NoStateIsLeft }
+{}
+
+/// A run that has drained has committed and echoed all that it took.
+pub fn drained_is_done()
+    ensures { DrainedIsDone }
 {}
 
 /// Two runs that accept the same and have drained end alike.
