@@ -13,3 +13,4 @@ pub mod SafeCommits
 pub mod Pipes
 pub mod Returns
 pub mod Honesty
+pub mod Held

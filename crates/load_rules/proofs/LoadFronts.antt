@@ -1,5 +1,5 @@
 -- Loads of a front of a trace, and of a trace that goes on.
-use Rattle.std.proofs.Common.{arith, ◌≡◌, List, [], ◌∷◌, ◌++◌, Bool, true, false, cond, refl, sym, ◌∙◌, ap, subst}
+use Rattle.std.proofs.Common.{ℕ, arith, ◌≡◌, List, [], ◌∷◌, ◌++◌, Bool, true, false, cond, refl, sym, ◌∙◌, ap, subst}
 use Rattle.std.specs.Prelude.{filter, fold, not}
 use Rattle.std.specs.List.{AllByRecursion, take_while}
 use Rattle.std.proofs.lemmas.List.Elements.{filter-append}
@@ -7,6 +7,7 @@ use Rattle.std.proofs.lemmas.List.Sums.{fold-append, take_while-cons}
 use Rattle.std.proofs.lemmas.Bool.{false≢true}
 use Rattle.outside.specs.Event.{is_links}
 use Rattle.outside.specs.declared.event.Event.{Event}
+use Rattle.outside.specs.declared.event.StreamPlan.{StreamPlan}
 use Rattle.outside.specs.declared.event.Event.TheVariants.{Opened, Took, TookEnd, Committed, Emitted, Merged, Shown, Started, ReadLine, ReadEnd, Given, Closed, Got, GotEnd, Saved, Ended}
 use Rattle.catalog.specs.declared.stream.ConfStream.{ConfStream}
 use Rattle.load_rules.specs.Prefixes.{EachFits, with_first}
@@ -14,7 +15,7 @@ use Rattle.load_rules.specs.Lines.{Reading}
 use Rattle.load_rules.specs.Loads.{Load, loads, loads_after, with_event, store_events, is_opened}
 use Rattle.load_rules.specs.Acts.{Act, AreActs}
 use Rattle.load_rules.specs.SafeDest.{Fits, IsSafeLoad}
-use Rattle.load_rules.specs.Laws.{IsSafeLast, OpensNothing, FrontsAreSafe, StaysSafe}
+use Rattle.load_rules.specs.Laws.{IsSafeLast, OpensNothing, FrontsAreSafe, StaysSafe, OpeningIsSafe}
 use Rattle.load_rules.proofs.Fronts.{each_front}
 
 -- acts of a load without its last event
@@ -150,4 +151,16 @@ stays_safe streams read trace more safe opens last =
     in record {
       opened = subst (λ events. take_while (λ one. not (is_opened one)) events ≡ []) (sym (filter-append (λ event. not (is_links event)) trace more)) (unopened_all streams read (store_events trace) (store_events more) opens_none safe.opened goes);
       each = subst (AllByRecursion (IsSafeLoad streams read)) (sym (loads-append trace more)) (all_go_on streams read (loads trace) (store_events more) opens_none safe.each goes);
+    }
+
+unopened_then : (before : List Event) (load moment : ℕ) (plan : List StreamPlan) → take_while (λ one. not (is_opened one)) before ≡ [] → take_while (λ one. not (is_opened one)) (before ++ Opened load moment plan ∷ []) ≡ []
+unopened_then [] load moment plan none = refl
+unopened_then (event ∷ before) load moment plan none = unopened_on event before (Opened load moment plan ∷ []) none
+
+pub opening_is_safe : OpeningIsSafe
+opening_is_safe streams read trace load moment plan safe =
+    let more = Opened load moment plan ∷ [] in
+    record {
+      opened = subst (λ events. take_while (λ one. not (is_opened one)) events ≡ []) (sym (filter-append (λ event. not (is_links event)) trace more)) (unopened_then (store_events trace) load moment plan safe.opened);
+      each = subst (AllByRecursion (IsSafeLoad streams read)) (sym (loads-append trace more)) (record { acts = []; are = tt; fit = tt }, safe.each);
     }

@@ -169,7 +169,7 @@ rows_are read [] (event ∷ events) are = absurd are
 rows_are read (act ∷ acts) [] are = absurd are
 rows_are read (act ∷ acts) (event ∷ events) are = rw (rows_same read act event are.0, rows_are read acts events are.1) refl
 
-committed_are : (read : Reading) (acts : List Act) (events : List Event) → AreActs read acts events → committed acts ≡ committed_in events
+pub committed_are : (read : Reading) (acts : List Act) (events : List Event) → AreActs read acts events → committed acts ≡ committed_in events
 committed_are read acts events are = ap (map (λ (row : RawRow). row.seq)) (rows_are read acts events are)
 
 -- New sequences

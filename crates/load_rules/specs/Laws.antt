@@ -6,15 +6,16 @@ use Rattle.outside.specs.declared.event.Event.{Event}
 use Rattle.outside.specs.declared.event.Event.TheVariants as event
 use Rattle.outside.specs.declared.event.RawRow.{RawRow}
 use Rattle.catalog.specs.declared.stream.ConfStream.{ConfStream}
+use Rattle.outside.specs.declared.event.StreamPlan.{StreamPlan}
 use Rattle.airbyte_message.specs.Lanes.{Lane, LaneCovers}
 use Rattle.dedup_merge.specs.Merges.{MergesFit}
 use Rattle.load_rules.specs.Prefixes.{EachFits, IsPrefix}
 use Rattle.load_rules.specs.Lines.{Reading, IsReading}
 use Rattle.load_rules.specs.Taken.{Entry, entries, covers, is_in, of_lane, states}
-use Rattle.load_rules.specs.Loads.{Opening, Load, loads, is_opened, tooks}
+use Rattle.load_rules.specs.Loads.{Opening, Load, loads, is_opened, tooks, held_in}
 use Rattle.load_rules.specs.Rows.{IsRowOf}
-use Rattle.load_rules.specs.Acts.{Act, Commits, taken, committed, echoed}
-use Rattle.load_rules.specs.SafeDest.{Fits, IsSafeLoad, IsSafeDest}
+use Rattle.load_rules.specs.Acts.{Act, AreActs, Commits, taken, committed, echoed}
+use Rattle.load_rules.specs.SafeDest.{Fits, IsSafeLoad, IsSafeDest, uncommitted}
 use Rattle.load_rules.specs.Stores.{CommittedFits, IsStoreRun}
 use Rattle.load_rules.specs.Attempts.{Attempt, attempts, gives, gots, emits}
 use Rattle.load_rules.specs.Honest.{IsHonestAttempt, AddsHonestly}
@@ -97,6 +98,16 @@ abbrev pub StaysSafe : Type 0
 StaysSafe =
     (streams : List ConfStream) (read : Reading) (trace more : List Event)
     → IsSafeDest streams read trace → OpensNothing more → IsSafeLast streams read (loads (trace ++ more)) → IsSafeDest streams read (trace ++ more)
+
+-- a safe trace stays one where a load is opened
+abbrev pub OpeningIsSafe : Type 0
+OpeningIsSafe =
+    (streams : List ConfStream) (read : Reading) (trace : List Event) (load moment : ℕ) (plan : List StreamPlan)
+    → IsSafeDest streams read trace → IsSafeDest streams read (trace ++ event.Opened load moment plan ∷ [])
+
+-- the records that are held by a load's events are those that are uncommitted by its acts
+abbrev pub HeldAreUncommitted : Type 0
+HeldAreUncommitted = (read : Reading) (acts : List Act) (events : List Event) → AreActs read acts events → held_in read events ≡ uncommitted acts
 
 -- where the sequence of a record of a load is committed, its own row is, in a commit of its stream
 pub record IsOwnRow (streams : List ConfStream) (opening : Opening) (acts : List Act) (entry : Entry) : Type 0 where

@@ -1,5 +1,5 @@
 // The laws of loads, each as the contract of a function that does nothing.
-ghost use Rattle.load_rules.specs.Laws.{AttemptsAreSafe, DrainedIsDone, FrontsAreRuns, FrontsAreSafe, HonestAttemptsAdd, LanesCover, NoStateIsLeft, OrderIsFree, PipesAreHonest, PrefixesFit, RowsAreOwn, RunsAreSafe, SafeCommitsFit, SealedInFront, StaysSafe, StoreMergesFit};
+ghost use Rattle.load_rules.specs.Laws.{AttemptsAreSafe, DrainedIsDone, FrontsAreRuns, FrontsAreSafe, HeldAreUncommitted, HonestAttemptsAdd, LanesCover, NoStateIsLeft, OpeningIsSafe, OrderIsFree, PipesAreHonest, PrefixesFit, RowsAreOwn, RunsAreSafe, SafeCommitsFit, SealedInFront, StaysSafe, StoreMergesFit};
 
 /// Whatever the machine does, its load is safe.
 pub fn runs_are_safe()
@@ -24,6 +24,16 @@ pub fn fronts_are_runs()
 /// A safe trace stays one where its last load goes on safely.
 pub fn stays_safe()
     ensures { StaysSafe }
+{}
+
+/// A safe trace stays one where a load is opened.
+pub fn opening_is_safe()
+    ensures { OpeningIsSafe }
+{}
+
+/// What a load holds by its events is what is uncommitted by its acts.
+pub fn held_are_uncommitted()
+    ensures { HeldAreUncommitted }
 {}
 
 /// A run that has drained leaves no state behind.
