@@ -3,7 +3,7 @@ use Rattle.std.proofs.Common.{arith, ◌≡◌, ◌⊎◌, inl, inr, ℕ, ◌+�
 use Rattle.std.specs.Prelude.{filter, filter_map, Contains}
 use Rattle.std.specs.List.{AllByRecursion}
 use Rattle.std.proofs.lemmas.List.{append-nil, map-append}
-use Rattle.std.proofs.lemmas.List.Elements.{filter-append, Contains-append_left, Contains-append_right}
+use Rattle.std.proofs.lemmas.List.Elements.{filter_map-append, filter-append, Contains-append_left, Contains-append_right}
 use Rattle.std.proofs.lemmas.Bool.{false≢true}
 use Rattle.outside.specs.declared.event.Event.{Event}
 use Rattle.outside.specs.declared.event.Event.TheVariants.{Opened, Took, TookEnd, Committed, Emitted, Merged, Shown, Started, ReadLine, ReadEnd, Given, Closed, Got, GotEnd, Saved, Ended}
@@ -14,7 +14,7 @@ use Rattle.airbyte_message.specs.Echo.{IsEcho}
 use Rattle.load_rules.specs.Prefixes.{EachFits, IsPrefix}
 use Rattle.load_rules.specs.Lines.{Line, Reading, ReadsText, ReadsEvent, IsReading, line_read, lines_read, state_in}
 use Rattle.load_rules.specs.Taken.{Entry, entries, entries_from, LaneState, state_of, states, states_behind, of_lane, is_same_lane, covers, covered, count_of, is_in}
-use Rattle.load_rules.specs.Loads.{Load, tooks}
+use Rattle.load_rules.specs.Loads.{took_text, Load, tooks}
 use Rattle.load_rules.specs.Acts.{Act, Commits, IsAct, AreActs, taken, committed, echoed, state_echoed}
 use Rattle.load_rules.specs.SafeDest.{IsSafeLoad, IsSafeDest}
 use Rattle.load_rules.specs.Attempts.{gives, gots, emits}
@@ -184,25 +184,6 @@ reads_tooks read (GotEnd ∷ events) all = reads_tooks read events all.1
 reads_tooks read ((Saved x) ∷ events) all = reads_tooks read events all.1
 reads_tooks read ((Ended x) ∷ events) all = reads_tooks read events all.1
 
-tooks_short : (events : List Event) → length (tooks events) ≤ length events
-tooks_short [] = omega arith
-tooks_short ((Opened x y z) ∷ events) = let rest = tooks_short events in omega (arith, rest)
-tooks_short ((Took x) ∷ events) = let rest = tooks_short events in omega (arith, rest)
-tooks_short (TookEnd ∷ events) = let rest = tooks_short events in omega (arith, rest)
-tooks_short ((Committed x y) ∷ events) = let rest = tooks_short events in omega (arith, rest)
-tooks_short ((Emitted x) ∷ events) = let rest = tooks_short events in omega (arith, rest)
-tooks_short ((Merged x y z) ∷ events) = let rest = tooks_short events in omega (arith, rest)
-tooks_short ((Shown x y z) ∷ events) = let rest = tooks_short events in omega (arith, rest)
-tooks_short ((Started x) ∷ events) = let rest = tooks_short events in omega (arith, rest)
-tooks_short ((ReadLine x) ∷ events) = let rest = tooks_short events in omega (arith, rest)
-tooks_short (ReadEnd ∷ events) = let rest = tooks_short events in omega (arith, rest)
-tooks_short ((Given x) ∷ events) = let rest = tooks_short events in omega (arith, rest)
-tooks_short (Closed ∷ events) = let rest = tooks_short events in omega (arith, rest)
-tooks_short ((Got x) ∷ events) = let rest = tooks_short events in omega (arith, rest)
-tooks_short (GotEnd ∷ events) = let rest = tooks_short events in omega (arith, rest)
-tooks_short ((Saved x) ∷ events) = let rest = tooks_short events in omega (arith, rest)
-tooks_short ((Ended x) ∷ events) = let rest = tooks_short events in omega (arith, rest)
-
 commit_told : (read : Reading) (acts : List Act) (events : List Event) (number : ℕ) (rows : List RawRow) → AreActs read acts events → Contains acts (Commits number rows) → Contains events (Committed number rows)
 commit_told read [] events number rows are c = absurd (contains_none (Commits number rows) c)
 commit_told read (act ∷ acts) [] number rows are c = absurd are
@@ -236,7 +217,7 @@ commit_told read (act ∷ acts) (event ∷ events) number rows are c = at (conta
 record Behind (streams : List ConfStream) (read : Reading) (before : List Event) (text : List ℕ) : Type 0 where
   reading : IsReading read before
   reads : ReadsText read text
-  short : length before < 2 ^ 64
+  short : length (tooks before) < 2 ^ 64
   safe : IsSafeDest streams read before
   given : IsPrefix (tooks before) (gives before)
   came : IsPrefix (gots before ++ text ∷ []) (emits before)
@@ -266,7 +247,7 @@ comes_back streams read before text b loaded = subst (AllByRecursion (GotFits st
     split = split_echoes (filter_map state_echoed safe.acts) (gots before) b.came.0 text echoes_are
 
     good_states : AllByRecursion IsEchoable (states (lines_read read (tooks before)))
-    good_states = let short = b.short in let few = tooks_short before in right_states read [] (tooks before) (omega (arith, short, few)) (reads_tooks read before b.reading)
+    good_states = let short = b.short in right_states read [] (tooks before) (omega (arith, short)) (reads_tooks read before b.reading)
 
     stand : (lane : Lane) → EchoesStand safe.acts lane
     stand lane = echoes_stand streams loaded.load.opening safe.acts lane safe.fit
@@ -333,9 +314,9 @@ may_come streams read before text b (inl none) = absurd (not_none (gots before) 
     not_none [] e = grind (arith, e)
     not_none (first ∷ list) e = grind (arith, e)
 
-got_behind : (streams : List ConfStream) (read : Reading) (events front rest : List Event) (text : List ℕ) → IsReading read events → length events < 2 ^ 64 → IsSafeDest streams read events → EachFits OpensFirst [] events → EachFits PipeFits [] events → events ≡ front ++ Got text ∷ rest → AllByRecursion (GotFits streams read front) (states (line_read read text ∷ []))
+got_behind : (streams : List ConfStream) (read : Reading) (events front rest : List Event) (text : List ℕ) → IsReading read events → length (tooks events) < 2 ^ 64 → IsSafeDest streams read events → EachFits OpensFirst [] events → EachFits PipeFits [] events → events ≡ front ++ Got text ∷ rest → AllByRecursion (GotFits streams read front) (states (line_read read text ∷ []))
 got_behind streams read events front rest text reading short safe opens pipes is =
-    let long = ap length is ∙ length-append front (Got text ∷ rest)
+    let long = ap (λ list. length (tooks list)) is ∙ (ap length (filter_map-append took_text front (Got text ∷ rest)) ∙ length-append (tooks front) (tooks (Got text ∷ rest)))
     in let reads = subst (IsReading read) is reading
     in may_come streams read front text (record {
       reading = all_front (ReadsEvent read) front (Got text ∷ rest) reads;
@@ -346,7 +327,7 @@ got_behind streams read events front rest text reading short safe opens pipes is
       came = each_at PipeFits [] front rest (Got text) (subst (EachFits PipeFits []) is pipes);
     }) (may_load front (each_front OpensFirst [] front (Got text ∷ rest) (subst (EachFits OpensFirst []) is opens)))
 
-honest_at : (streams : List ConfStream) (read : Reading) (events front rest : List Event) (next : Event) → IsReading read events → length events < 2 ^ 64 → IsSafeDest streams read events → EachFits OpensFirst [] events → EachFits PipeFits [] events → events ≡ front ++ next ∷ rest → HonestFits streams read front next
+honest_at : (streams : List ConfStream) (read : Reading) (events front rest : List Event) (next : Event) → IsReading read events → length (tooks events) < 2 ^ 64 → IsSafeDest streams read events → EachFits OpensFirst [] events → EachFits PipeFits [] events → events ≡ front ++ next ∷ rest → HonestFits streams read front next
 honest_at streams read events front rest (Opened x y z) reading short safe opens pipes is = tt
 honest_at streams read events front rest (Took x) reading short safe opens pipes is = tt
 honest_at streams read events front rest TookEnd reading short safe opens pipes is = tt

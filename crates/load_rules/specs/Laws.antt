@@ -147,7 +147,7 @@ PipeFits before event = Unit {0}
 abbrev pub PipesAreHonest : Type 0
 PipesAreHonest =
     (streams : List ConfStream) (read : Reading) (attempt : Attempt)
-    → IsReading read attempt.events → length attempt.events < 2 ^ 64
+    → IsReading read attempt.events → length (tooks attempt.events) < 2 ^ 64
     → IsSafeDest streams read attempt.events → EachFits OpensFirst [] attempt.events → EachFits PipeFits [] attempt.events
     → IsHonestAttempt streams read attempt
 
