@@ -176,8 +176,8 @@ impl Pool {
         self.next
     }
 
-    /// Puts a record behind its stream's queue; its sequence is above those of all records before. The line comes back exactly where no slot is free, or its bytes would
-    /// pass the bound. It takes no memory.
+    /// Puts a record behind its stream's queue; its sequence is above those of all records before. The line comes back
+    /// exactly where no slot is free, or its bytes would pass the bound. It takes no memory.
     pub fn push(&mut self, stream: StreamNo, seq: u64, line: Bytes) -> Result<(), Bytes>
         requires stream { stream < self.old.streams }
         requires above { self.old.next ≤ seq }

@@ -14,8 +14,8 @@ pub struct Slot {
     pub chain: Option<u64>,
 }
 
-/// Records of a stream that were detached together. It is to be spent by `restore` or `free` on the pool that made it;
-/// until then its records keep their room.
+/// Records of a stream that were detached together. `restore` and `free` on the pool that made it spend it; until then its
+/// records keep their room, and for good where it is let go.
 #[derive(Debug, Drop)]
 pub struct Chain {
     // The sequence of its first record, which no other chain has.
