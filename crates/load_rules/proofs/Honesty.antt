@@ -8,13 +8,14 @@ use Rattle.std.proofs.lemmas.Bool.{false≢true}
 use Rattle.outside.specs.declared.event.Event.{Event}
 use Rattle.outside.specs.declared.event.Event.TheVariants.{Opened, Took, TookEnd, Committed, Emitted, Merged, Shown, Started, ReadLine, ReadEnd, Given, Closed, Got, GotEnd, Saved, Ended}
 use Rattle.outside.specs.declared.event.RawRow.{RawRow}
+use Rattle.outside.specs.Event.{took_in}
 use Rattle.catalog.specs.declared.stream.ConfStream.{ConfStream}
 use Rattle.airbyte_message.specs.Lanes.{Lane}
 use Rattle.airbyte_message.specs.Echo.{IsEcho}
 use Rattle.load_rules.specs.Prefixes.{EachFits, IsPrefix}
 use Rattle.load_rules.specs.Lines.{Line, Reading, ReadsText, ReadsEvent, IsReading, line_read, lines_read, state_in}
 use Rattle.load_rules.specs.Taken.{Entry, entries, entries_from, LaneState, state_of, states, states_behind, of_lane, is_same_lane, covers, covered, count_of, is_in}
-use Rattle.load_rules.specs.Loads.{took_text, Load, tooks}
+use Rattle.load_rules.specs.Loads.{Load, tooks}
 use Rattle.load_rules.specs.Acts.{Act, Commits, IsAct, AreActs, taken, committed, echoed, state_echoed}
 use Rattle.load_rules.specs.SafeDest.{IsSafeLoad, IsSafeDest}
 use Rattle.load_rules.specs.Attempts.{gives, gots, emits}
@@ -316,7 +317,7 @@ may_come streams read before text b (inl none) = absurd (not_none (gots before) 
 
 got_behind : (streams : List ConfStream) (read : Reading) (events front rest : List Event) (text : List ℕ) → IsReading read events → length (tooks events) < 2 ^ 64 → IsSafeDest streams read events → EachFits OpensFirst [] events → EachFits PipeFits [] events → events ≡ front ++ Got text ∷ rest → AllByRecursion (GotFits streams read front) (states (line_read read text ∷ []))
 got_behind streams read events front rest text reading short safe opens pipes is =
-    let long = ap (λ list. length (tooks list)) is ∙ (ap length (filter_map-append took_text front (Got text ∷ rest)) ∙ length-append (tooks front) (tooks (Got text ∷ rest)))
+    let long = ap (λ list. length (tooks list)) is ∙ (ap length (filter_map-append took_in front (Got text ∷ rest)) ∙ length-append (tooks front) (tooks (Got text ∷ rest)))
     in let reads = subst (IsReading read) is reading
     in may_come streams read front text (record {
       reading = all_front (ReadsEvent read) front (Got text ∷ rest) reads;

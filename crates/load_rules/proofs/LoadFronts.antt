@@ -9,10 +9,11 @@ use Rattle.outside.specs.Event.{is_links}
 use Rattle.outside.specs.declared.event.Event.{Event}
 use Rattle.outside.specs.declared.event.StreamPlan.{StreamPlan}
 use Rattle.outside.specs.declared.event.Event.TheVariants.{Opened, Took, TookEnd, Committed, Emitted, Merged, Shown, Started, ReadLine, ReadEnd, Given, Closed, Got, GotEnd, Saved, Ended}
+use Rattle.outside.specs.Dock.{is_opening}
 use Rattle.catalog.specs.declared.stream.ConfStream.{ConfStream}
 use Rattle.load_rules.specs.Prefixes.{EachFits, with_first}
 use Rattle.load_rules.specs.Lines.{Reading}
-use Rattle.load_rules.specs.Loads.{Load, loads, loads_after, with_event, store_events, is_opened}
+use Rattle.load_rules.specs.Loads.{Load, loads, loads_after, with_event, store_events}
 use Rattle.load_rules.specs.Acts.{Act, AreActs}
 use Rattle.load_rules.specs.SafeDest.{Fits, IsSafeLoad}
 use Rattle.load_rules.specs.Laws.{IsSafeLast, OpensNothing, FrontsAreSafe, StaysSafe, OpeningIsSafe}
@@ -73,20 +74,20 @@ cons_taken : {A : Type 0} (b : Bool) (x : A) (xs ys : List A) → cond b (x ∷ 
 cons_taken true x xs ys e = absurd (grind (arith, e))
 cons_taken false x xs ys e = refl
 
-unopened_back : (front rest : List Event) → take_while (λ event. not (is_opened event)) (front ++ rest) ≡ [] → take_while (λ event. not (is_opened event)) front ≡ []
+unopened_back : (front rest : List Event) → take_while (λ event. not (is_opening event)) (front ++ rest) ≡ [] → take_while (λ event. not (is_opening event)) front ≡ []
 unopened_back [] rest none = refl
 unopened_back (event ∷ events) rest none =
-    take_while-cons (λ one. not (is_opened one)) event events
-    ∙ cons_taken (not (is_opened event)) event (take_while (λ one. not (is_opened one)) (events ++ rest)) (take_while (λ one. not (is_opened one)) events) (sym (take_while-cons (λ one. not (is_opened one)) event (events ++ rest)) ∙ none)
+    take_while-cons (λ one. not (is_opening one)) event events
+    ∙ cons_taken (not (is_opening event)) event (take_while (λ one. not (is_opening one)) (events ++ rest)) (take_while (λ one. not (is_opening one)) events) (sym (take_while-cons (λ one. not (is_opening one)) event (events ++ rest)) ∙ none)
 
-unopened_on : (event : Event) (events rest : List Event) → take_while (λ one. not (is_opened one)) (event ∷ events) ≡ [] → take_while (λ one. not (is_opened one)) ((event ∷ events) ++ rest) ≡ []
+unopened_on : (event : Event) (events rest : List Event) → take_while (λ one. not (is_opening one)) (event ∷ events) ≡ [] → take_while (λ one. not (is_opening one)) ((event ∷ events) ++ rest) ≡ []
 unopened_on event events rest none =
-    take_while-cons (λ one. not (is_opened one)) event (events ++ rest)
-    ∙ cons_taken (not (is_opened event)) event (take_while (λ one. not (is_opened one)) events) (take_while (λ one. not (is_opened one)) (events ++ rest)) (sym (take_while-cons (λ one. not (is_opened one)) event events) ∙ none)
+    take_while-cons (λ one. not (is_opening one)) event (events ++ rest)
+    ∙ cons_taken (not (is_opening event)) event (take_while (λ one. not (is_opening one)) events) (take_while (λ one. not (is_opening one)) (events ++ rest)) (sym (take_while-cons (λ one. not (is_opening one)) event events) ∙ none)
 
 pub fronts_are_safe : FrontsAreSafe
 fronts_are_safe streams read front rest safe = record {
-  opened = unopened_back (store_events front) (store_events rest) (subst (λ events. take_while (λ one. not (is_opened one)) events ≡ []) (filter-append (λ event. not (is_links event)) front rest) safe.opened);
+  opened = unopened_back (store_events front) (store_events rest) (subst (λ events. take_while (λ one. not (is_opening one)) events ≡ []) (filter-append (λ event. not (is_links event)) front rest) safe.opened);
   each = all_back streams read (loads front) (store_events rest) (subst (AllByRecursion (IsSafeLoad streams read)) (loads-append front rest) safe.each);
 }
 
@@ -100,7 +101,7 @@ all_filtered P test (event ∷ events) all = at (test event) (all_filtered P tes
     at true rest = (all.0, rest)
     at false rest = rest
 
-pub goes_on : (list : List Load) (event : Event) → is_opened event ≡ false → loads_after list event ≡ with_first (with_event event) list
+pub goes_on : (list : List Load) (event : Event) → is_opening event ≡ false → loads_after list event ≡ with_first (with_event event) list
 goes_on list (Opened a b c) not_opened = absurd (false≢true (sym not_opened))
 goes_on list (Took a) not_opened = refl
 goes_on list TookEnd not_opened = refl
@@ -140,20 +141,20 @@ all_go_on streams read (load ∷ older) events opens safe last =
     in subst (AllByRecursion (IsSafeLoad streams read)) (sym on.is) (subst (IsSafeLast streams read) on.is last, safe.1)
 
 -- where no load is, nothing is opened, so nothing goes on
-unopened_all : (streams : List ConfStream) (read : Reading) (before events : List Event) → OpensNothing events → take_while (λ one. not (is_opened one)) before ≡ [] → IsSafeLast streams read (fold loads_after (fold loads_after [] before) events) → take_while (λ one. not (is_opened one)) (before ++ events) ≡ []
+unopened_all : (streams : List ConfStream) (read : Reading) (before events : List Event) → OpensNothing events → take_while (λ one. not (is_opening one)) before ≡ [] → IsSafeLast streams read (fold loads_after (fold loads_after [] before) events) → take_while (λ one. not (is_opening one)) (before ++ events) ≡ []
 unopened_all streams read [] events opens none last = absurd (subst (IsSafeLast streams read) (none_goes_on events opens) last)
 unopened_all streams read (event ∷ before) events opens none last = unopened_on event before events none
 
 pub stays_safe : StaysSafe
 stays_safe streams read trace more safe opens last =
-    let opens_none = all_filtered (λ event. is_opened event ≡ false) (λ event. not (is_links event)) more opens
+    let opens_none = all_filtered (λ event. is_opening event ≡ false) (λ event. not (is_links event)) more opens
     in let goes = subst (IsSafeLast streams read) (loads-append trace more) last
     in record {
-      opened = subst (λ events. take_while (λ one. not (is_opened one)) events ≡ []) (sym (filter-append (λ event. not (is_links event)) trace more)) (unopened_all streams read (store_events trace) (store_events more) opens_none safe.opened goes);
+      opened = subst (λ events. take_while (λ one. not (is_opening one)) events ≡ []) (sym (filter-append (λ event. not (is_links event)) trace more)) (unopened_all streams read (store_events trace) (store_events more) opens_none safe.opened goes);
       each = subst (AllByRecursion (IsSafeLoad streams read)) (sym (loads-append trace more)) (all_go_on streams read (loads trace) (store_events more) opens_none safe.each goes);
     }
 
-unopened_then : (before : List Event) (load moment : ℕ) (plan : List StreamPlan) → take_while (λ one. not (is_opened one)) before ≡ [] → take_while (λ one. not (is_opened one)) (before ++ Opened load moment plan ∷ []) ≡ []
+unopened_then : (before : List Event) (load moment : ℕ) (plan : List StreamPlan) → take_while (λ one. not (is_opening one)) before ≡ [] → take_while (λ one. not (is_opening one)) (before ++ Opened load moment plan ∷ []) ≡ []
 unopened_then [] load moment plan none = refl
 unopened_then (event ∷ before) load moment plan none = unopened_on event before (Opened load moment plan ∷ []) none
 
@@ -161,6 +162,6 @@ pub opening_is_safe : OpeningIsSafe
 opening_is_safe streams read trace load moment plan safe =
     let more = Opened load moment plan ∷ [] in
     record {
-      opened = subst (λ events. take_while (λ one. not (is_opened one)) events ≡ []) (sym (filter-append (λ event. not (is_links event)) trace more)) (unopened_then (store_events trace) load moment plan safe.opened);
+      opened = subst (λ events. take_while (λ one. not (is_opening one)) events ≡ []) (sym (filter-append (λ event. not (is_links event)) trace more)) (unopened_then (store_events trace) load moment plan safe.opened);
       each = subst (AllByRecursion (IsSafeLoad streams read)) (sym (loads-append trace more)) (record { acts = []; are = tt; fit = tt }, safe.each);
     }

@@ -6,20 +6,21 @@ use Rattle.std.proofs.lemmas.List.{append-nil}
 use Rattle.std.proofs.lemmas.List.Elements.{filter_map-append, filter-append}
 use Rattle.std.proofs.lemmas.Bool.{cases_Bool, false≢true, or_left}
 use Rattle.std.proofs.lemmas.Option.{slice_get_past}
-use Rattle.outside.specs.Event.{is_links}
+use Rattle.outside.specs.Event.{is_links, took_in, emitted_in, given_in}
 use Rattle.outside.specs.declared.event.Event.{Event}
 use Rattle.outside.specs.declared.event.Event.TheVariants.{Opened, Took, TookEnd, Committed, Emitted, Merged, Shown, Started, ReadLine, ReadEnd, Given, Closed, Got, GotEnd, Saved, Ended}
 use Rattle.outside.specs.declared.event.StreamPlan.{StreamPlan}
+use Rattle.outside.specs.Dock.{is_opening}
 use Rattle.catalog.specs.declared.stream.ConfStream.{ConfStream}
 use Rattle.airbyte_message.specs.Lanes.{Lane}
 use Rattle.airbyte_message.specs.Echo.{IsEcho}
 use Rattle.load_rules.specs.Prefixes.{EachFits, IsPrefix}
 use Rattle.load_rules.specs.Lines.{Line, Reading, lines_read, state_in}
 use Rattle.load_rules.specs.Taken.{LaneState, state_of, states, of_lane, is_same_lane, covered, count_of, is_in}
-use Rattle.load_rules.specs.Loads.{Opening, Load, loads, loads_after, with_event, store_events, is_opened, tooks, took_text}
+use Rattle.load_rules.specs.Loads.{Opening, Load, loads, loads_after, with_event, store_events, tooks}
 use Rattle.load_rules.specs.Acts.{Act, Takes, Ends, Commits, Echoes, Turns, IsAct, AreActs, taken, committed, echoed, state_echoed}
 use Rattle.load_rules.specs.SafeDest.{Fits}
-use Rattle.load_rules.specs.Attempts.{gives, given_text, emits, emitted_text}
+use Rattle.load_rules.specs.Attempts.{gives, emits}
 use Rattle.load_rules.specs.Engine.{OpensFirst, HasOpened}
 use Rattle.load_rules.specs.Laws.{PipeFits}
 use Rattle.load_rules.proofs.Machines.{taken-more, committed-more, echoed-more, states-one, is_in-append, lane_is, lane_own}
@@ -304,19 +305,19 @@ abbrev pub MayLoad : List Event → Type 0
 MayLoad events = NoLoad events ⊎ OneLoad events
 
 tooks-more : (events : List Event) (event : Event) → tooks (events ++ event ∷ []) ≡ tooks events ++ tooks (event ∷ [])
-tooks-more events event = filter_map-append took_text events (event ∷ [])
+tooks-more events event = filter_map-append took_in events (event ∷ [])
 
 emits-more : (events : List Event) (event : Event) → emits (events ++ event ∷ []) ≡ emits events ++ emits (event ∷ [])
-emits-more events event = filter_map-append emitted_text events (event ∷ [])
+emits-more events event = filter_map-append emitted_in events (event ∷ [])
 
 gives-more : (events : List Event) (event : Event) → gives (events ++ event ∷ []) ≡ gives events ++ gives (event ∷ [])
-gives-more events event = filter_map-append given_text events (event ∷ [])
+gives-more events event = filter_map-append given_in events (event ∷ [])
 
 load_link : (events : List Event) (event : Event) → is_links event ≡ true → tooks (event ∷ []) ≡ [] → emits (event ∷ []) ≡ [] → MayLoad events → MayLoad (events ++ event ∷ [])
 load_link events event is no_took no_emit (inl none) = inl (record { stored = store_link events event is ∙ none.stored; emits_none = emits-more events event ∙ (ap (λ list. emits events ++ list) no_emit ∙ (append-nil (emits events) ∙ none.emits_none)); tooks_none = tooks-more events event ∙ (ap (λ list. tooks events ++ list) no_took ∙ (append-nil (tooks events) ∙ none.tooks_none)) })
 load_link events event is no_took no_emit (inr loaded) = inr (record { load = loaded.load; own = loads_link events event is ∙ loaded.own; tooks_are = tooks-more events event ∙ (ap (λ list. tooks events ++ list) no_took ∙ (append-nil (tooks events) ∙ loaded.tooks_are)); emits_are = emits-more events event ∙ (ap (λ list. emits events ++ list) no_emit ∙ (append-nil (emits events) ∙ loaded.emits_are)) })
 
-load_store : (events : List Event) (event : Event) → is_links event ≡ false → is_opened event ≡ false → HasOpened events → MayLoad events → MayLoad (events ++ event ∷ [])
+load_store : (events : List Event) (event : Event) → is_links event ≡ false → is_opening event ≡ false → HasOpened events → MayLoad events → MayLoad (events ++ event ∷ [])
 load_store events event is other opened (inl none) = absurd (false≢true (sym (none_opened events none.stored) ∙ opened))
 load_store events event is other opened (inr loaded) = inr (record {
   load = with_event event loaded.load;

@@ -10,10 +10,11 @@ use Rattle.outside.specs.Event.{is_links}
 use Rattle.outside.specs.declared.event.Event.{Event}
 use Rattle.outside.specs.declared.event.Event.TheVariants.{Opened, Took, TookEnd, Committed, Emitted, Merged, Shown, Started, ReadLine, ReadEnd, Given, Closed, Got, GotEnd, Saved, Ended}
 use Rattle.outside.specs.declared.event.StreamPlan.{StreamPlan}
+use Rattle.outside.specs.Dock.{is_opening}
 use Rattle.catalog.specs.declared.stream.ConfStream.{ConfStream}
 use Rattle.load_rules.specs.Prefixes.{EachFits, with_first}
 use Rattle.load_rules.specs.Lines.{Reading}
-use Rattle.load_rules.specs.Loads.{Load, loads, loads_after, with_event, store_events, is_opened}
+use Rattle.load_rules.specs.Loads.{Load, loads, loads_after, with_event, store_events}
 use Rattle.load_rules.specs.SafeDest.{IsSafeLoad, IsSafeDest}
 use Rattle.load_rules.specs.Attempts.{Attempt, attempts, attempts_after, attempt_with}
 use Rattle.load_rules.specs.Engine.{OpensFirst, HasOpened, RunFitsIn, RunFits}
@@ -45,7 +46,7 @@ pub record InLoad (events before : List Event) : Type 0 where
   pub first : Event
   pub rest : List Event
   pub stored : store_events events ≡ first ∷ rest
-  pub opens : is_opened first ≡ true
+  pub opens : is_opening first ≡ true
 
 abbrev pub Stage : List Event → List Event → Type 0
 Stage events before = (store_events events ≡ []) ⊎ InLoad events before
@@ -73,7 +74,7 @@ link_or_none event events none = at (is_links event) refl none
     at true is none = (is, none)
     at false is none = absurd (grind (arith, none))
 
-pub link_opens_not : (event : Event) → is_links event ≡ true → is_opened event ≡ false
+pub link_opens_not : (event : Event) → is_links event ≡ true → is_opening event ≡ false
 link_opens_not (Opened x y z) is = absurd (false≢true is)
 link_opens_not (Took x) is = refl
 link_opens_not TookEnd is = refl
@@ -91,13 +92,13 @@ link_opens_not GotEnd is = refl
 link_opens_not (Saved x) is = refl
 link_opens_not (Ended x) is = refl
 
-pub none_opened : (events : List Event) → store_events events ≡ [] → list_any is_opened events ≡ false
+pub none_opened : (events : List Event) → store_events events ≡ [] → list_any is_opening events ≡ false
 none_opened [] none = refl
 none_opened (event ∷ events) none =
     let parts = link_or_none event events none
     in rw (link_opens_not event parts.0, none_opened events parts.1) refl
 
-stage_store : (events before : List Event) (event : Event) → is_links event ≡ false → is_opened event ≡ false → HasOpened events → Stage events before → Stage (events ++ event ∷ []) (before ++ event ∷ [])
+stage_store : (events before : List Event) (event : Event) → is_links event ≡ false → is_opening event ≡ false → HasOpened events → Stage events before → Stage (events ++ event ∷ []) (before ++ event ∷ [])
 stage_store events before event is other opened (inl none) = absurd (false≢true (sym (none_opened events none) ∙ opened))
 stage_store events before event is other opened (inr in_load) = inr (record {
   load = with_event event in_load.load;
@@ -130,11 +131,11 @@ stage_step events before (Ended x) opens stage = stage_link events before (Ended
 
 safe_of : (streams : List ConfStream) (read : Reading) (events before : List Event) → IsSafeDest streams read before → Stage events before → IsSafeDest streams read events
 safe_of streams read events before safe (inl none) = record {
-  opened = ap (take_while (λ it. not (is_opened it))) none;
+  opened = ap (take_while (λ it. not (is_opening it))) none;
   each = subst (λ stored. AllByRecursion (IsSafeLoad streams read) (fold loads_after [] stored)) (sym none) tt;
 }
 safe_of streams read events before safe (inr in_load) = record {
-  opened = ap (take_while (λ it. not (is_opened it))) in_load.stored ∙ (take_while-cons (λ it. not (is_opened it)) in_load.first in_load.rest ∙ ap (λ b. cond (not b) (in_load.first ∷ take_while (λ it. not (is_opened it)) in_load.rest) []) in_load.opens);
+  opened = ap (take_while (λ it. not (is_opening it))) in_load.stored ∙ (take_while-cons (λ it. not (is_opening it)) in_load.first in_load.rest ∙ ap (λ b. cond (not b) (in_load.first ∷ take_while (λ it. not (is_opening it)) in_load.rest) []) in_load.opens);
   each = subst (AllByRecursion (IsSafeLoad streams read)) (sym in_load.own) ((subst (AllByRecursion (IsSafeLoad streams read)) in_load.whole safe.each).0, tt);
 }
 

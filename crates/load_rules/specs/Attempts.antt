@@ -5,6 +5,7 @@ use Rattle.basics.specs.declared.stream.StreamId.{StreamId}
 use Rattle.outside.specs.declared.event.Event.{Event}
 use Rattle.outside.specs.declared.event.Event.TheVariants.{Started, ReadLine, Given, Got, Emitted}
 use Rattle.outside.specs.declared.event.AttemptPlan.{AttemptPlan}
+use Rattle.outside.specs.Event.{emitted_in, read_in, given_in, got_in}
 use Rattle.airbyte_message.specs.Lanes.{Lane}
 use Rattle.airbyte_message.specs.Same.{Same}
 use Rattle.airbyte_message.specs.State.{State}
@@ -33,34 +34,18 @@ abbrev pub attempt_events : List Attempt → List Event
 attempt_events [] = []
 attempt_events (attempt ∷ older) = attempt.events
 
-abbrev pub read_text : Event → Option (List ℕ)
-read_text (ReadLine text) = Some text
-read_text event = None
-
-abbrev pub given_text : Event → Option (List ℕ)
-given_text (Given text) = Some text
-given_text event = None
-
-abbrev pub got_text : Event → Option (List ℕ)
-got_text (Got text) = Some text
-got_text event = None
-
-abbrev pub emitted_text : Event → Option (List ℕ)
-emitted_text (Emitted text) = Some text
-emitted_text event = None
-
 -- the lines that were read, given, emitted and got
 abbrev pub reads : List Event → List (List ℕ)
-reads events = filter_map read_text events
+reads events = filter_map read_in events
 
 abbrev pub gives : List Event → List (List ℕ)
-gives events = filter_map given_text events
+gives events = filter_map given_in events
 
 abbrev pub emits : List Event → List (List ℕ)
-emits events = filter_map emitted_text events
+emits events = filter_map emitted_in events
 
 abbrev pub gots : List Event → List (List ℕ)
-gots events = filter_map got_text events
+gots events = filter_map got_in events
 
 -- of the lines that were read, those that are passed on
 abbrev pub passed : List StreamId → Reading → List Event → List Line

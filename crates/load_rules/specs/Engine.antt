@@ -10,6 +10,7 @@ use Rattle.outside.specs.declared.event.Exit.{Exit}
 use Rattle.outside.specs.declared.event.Exit.TheVariants.{Code}
 use Rattle.outside.specs.declared.event.StreamPlan.{StreamPlan}
 use Rattle.outside.specs.declared.load.Marks.{Marks}
+use Rattle.outside.specs.Dock.{is_opening}
 use Rattle.airbyte_message.specs.declared.stream_status.StreamStatus.TheVariants.{Complete}
 use Rattle.catalog.specs.Reading.{ReadsAs}
 use Rattle.catalog.specs.declared.stream.ConfStream.{ConfStream}
@@ -18,7 +19,7 @@ use Rattle.catalog.specs.declared.modes.DestMode.TheVariants as dest
 use Rattle.generation_rules.specs.Generations.{next_of}
 use Rattle.load_rules.specs.Prefixes.{EachFits, IsPrefix}
 use Rattle.load_rules.specs.Lines.{Reading, lines_read}
-use Rattle.load_rules.specs.Loads.{Load, loads, store_events, is_opened, tooks, held_in}
+use Rattle.load_rules.specs.Loads.{Load, loads, store_events, tooks, held_in}
 use Rattle.load_rules.specs.SafeDest.{IsSafeDest}
 use Rattle.load_rules.specs.Marks.{marks_of}
 use Rattle.load_rules.specs.Stores.{IsStoreRun}
@@ -65,7 +66,7 @@ pub record AreEngineLoads (streams : List ConfStream) (read : Reading) (trace : 
 -- Attempts
 
 abbrev pub HasOpened : List Event → Type 0
-HasOpened attempt = list_any is_opened attempt ≡ true
+HasOpened attempt = list_any is_opening attempt ≡ true
 
 -- an attempt opens one load, and all that its store does stands behind that
 abbrev pub OpensFirst : List Event → Event → Type 0

@@ -7,12 +7,13 @@ use Rattle.outside.specs.declared.event.Event.TheVariants as event
 use Rattle.outside.specs.declared.event.RawRow.{RawRow}
 use Rattle.catalog.specs.declared.stream.ConfStream.{ConfStream}
 use Rattle.outside.specs.declared.event.StreamPlan.{StreamPlan}
+use Rattle.outside.specs.Dock.{is_opening}
 use Rattle.airbyte_message.specs.Lanes.{Lane, LaneCovers}
 use Rattle.dedup_merge.specs.Merges.{MergesFit}
 use Rattle.load_rules.specs.Prefixes.{EachFits, IsPrefix}
 use Rattle.load_rules.specs.Lines.{Reading, IsReading}
 use Rattle.load_rules.specs.Taken.{Entry, entries, covers, is_in, of_lane, states}
-use Rattle.load_rules.specs.Loads.{Opening, Load, loads, is_opened, tooks, held_in}
+use Rattle.load_rules.specs.Loads.{Opening, Load, loads, tooks, held_in}
 use Rattle.load_rules.specs.Rows.{IsRowOf}
 use Rattle.load_rules.specs.Acts.{Act, AreActs, Commits, taken, committed, echoed}
 use Rattle.load_rules.specs.SafeDest.{Fits, IsSafeLoad, IsSafeDest, uncommitted}
@@ -91,7 +92,7 @@ IsSafeLast streams read [] = ⊥
 IsSafeLast streams read (load ∷ older) = IsSafeLoad streams read load
 
 abbrev pub OpensNothing : List Event → Type 0
-OpensNothing more = AllByRecursion (λ event. is_opened event ≡ false) more
+OpensNothing more = AllByRecursion (λ event. is_opening event ≡ false) more
 
 -- a safe trace stays one where its last load goes on safely
 abbrev pub StaysSafe : Type 0

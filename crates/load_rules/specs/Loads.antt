@@ -1,11 +1,12 @@
 -- The loads of a trace: each is the part from one Opened to the event before the next.
 use Rattle.std.specs.Prelude.{ℕ, List, [], ◌∷◌, ◌++◌, map, fold, filter, filter_map, flat_map, Bool, true, false, not, Option, None, Some}
 use Rattle.std.specs.List.{take_while}
-use Rattle.outside.specs.Event.{is_links}
+use Rattle.outside.specs.Event.{is_links, took_in}
 use Rattle.outside.specs.declared.event.Event.{Event}
 use Rattle.outside.specs.declared.event.Event.TheVariants.{Opened, Took, Committed}
 use Rattle.outside.specs.declared.event.RawRow.{RawRow}
 use Rattle.outside.specs.declared.event.StreamPlan.{StreamPlan}
+use Rattle.outside.specs.Dock.{is_opening}
 use Rattle.load_rules.specs.Prefixes.{with_first}
 use Rattle.load_rules.specs.Lines.{Reading, lines_read}
 use Rattle.load_rules.specs.Taken.{Entry, entries, without}
@@ -25,13 +26,9 @@ pub record Load : Type 0 where
 abbrev pub store_events : List Event → List Event
 store_events trace = filter (λ event. not (is_links event)) trace
 
-abbrev pub is_opened : Event → Bool
-is_opened (Opened load moment plan) = true
-is_opened event = false
-
 -- the store's events before the first load
 abbrev pub unopened : List Event → List Event
-unopened trace = take_while (λ event. not (is_opened event)) (store_events trace)
+unopened trace = take_while (λ event. not (is_opening event)) (store_events trace)
 
 abbrev pub with_event : Event → Load → Load
 with_event event load = record load { events = load.events ++ event ∷ [] }
@@ -46,12 +43,8 @@ loads trace = fold loads_after [] (store_events trace)
 
 -- What a load took and committed
 
-abbrev pub took_text : Event → Option (List ℕ)
-took_text (Took text) = Some text
-took_text event = None
-
 abbrev pub tooks : List Event → List (List ℕ)
-tooks events = filter_map took_text events
+tooks events = filter_map took_in events
 
 abbrev pub committed_rows : Event → List RawRow
 committed_rows (Committed number rows) = rows

@@ -6,4 +6,5 @@ mod payload;
 mod trace;
 mod write;
 
+pub use parts::put_id;
 pub use write::{read_has_forms, write_message};

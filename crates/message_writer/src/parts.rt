@@ -6,7 +6,8 @@ ghost use Rattle.json_write.specs.Objects.{more_text, named, optional, part_befo
 use basics::{Bytes, NoMemory, StreamId};
 use json_write::{put_optional_string, put_string_member};
 
-// Puts a stream as the first members: its name, and its namespace where it has one.
+/// Puts a stream as the first members of an object: its name in the member of this name, and its namespace where it has
+/// one.
 pub fn put_id(text: &mut Bytes, member: &str, id: &StreamId) -> Result<(), NoMemory>
     ensures { OnOk result (text.new ≡ text.old ++ (123 ∷ part_before (named member.now (quoted id.now.name)) []) ++ more_text (optional (codes "namespace") (option_map quoted id.now.namespace) [])) }
 {

@@ -5,10 +5,11 @@ use Rattle.std.specs.List.{AllByRecursion}
 use Rattle.std.proofs.lemmas.List.{append-nil}
 use Rattle.basics.specs.Told.{told_more}
 use Rattle.outside.specs.Link.{Told}
-use Rattle.outside.specs.Hand.{Hand, HandMoved, HandMoves, took_in, emitted_in, unread}
+use Rattle.outside.specs.Hand.{Hand, HandMoved, HandMoves, unread}
 use Rattle.outside.specs.Dock.{DockSeen, NoneFell, IsToldBetween, DockGrew, DockMoves, ReadAtMost, dock_events, is_opening}
 use Rattle.outside.specs.declared.dock.DockTally.{DockTally}
 use Rattle.outside.specs.declared.event.Event.{Event}
+use Rattle.outside.specs.Event.{took_in, emitted_in}
 use Rattle.outside.proofs.ToldLaws.{told_none, told_both, all_both, all_map}
 
 pub none_fell_refl : (a : DockTally) → NoneFell a a

@@ -1,5 +1,5 @@
 -- Which events a link adds, and what a list of events says.
-use Rattle.std.specs.Prelude.{ℕ, List, [], fold, Bool, true, false}
+use Rattle.std.specs.Prelude.{ℕ, List, [], fold, Bool, true, false, Option, None, Some}
 use Rattle.outside.specs.declared.event.Event.{Event}
 use Rattle.outside.specs.declared.event.Event.TheVariants.{Opened, Took, TookEnd, Committed, Emitted, Merged, Shown, Started, ReadLine, ReadEnd, Given, Closed, Got, GotEnd, Saved, Ended}
 
@@ -21,6 +21,32 @@ is_links (Got line) = true
 is_links GotEnd = true
 is_links (Saved text) = true
 is_links (Ended codes) = true
+
+-- The line, or the text of the state store, that an event of one kind holds
+
+abbrev pub took_in : Event → Option (List ℕ)
+took_in (Took line) = Some line
+took_in event = None
+
+abbrev pub emitted_in : Event → Option (List ℕ)
+emitted_in (Emitted line) = Some line
+emitted_in event = None
+
+abbrev pub read_in : Event → Option (List ℕ)
+read_in (ReadLine line) = Some line
+read_in event = None
+
+abbrev pub given_in : Event → Option (List ℕ)
+given_in (Given line) = Some line
+given_in event = None
+
+abbrev pub got_in : Event → Option (List ℕ)
+got_in (Got line) = Some line
+got_in event = None
+
+abbrev pub saved_in : Event → Option (List ℕ)
+saved_in (Saved text) = Some text
+saved_in event = None
 
 -- the text of the state store after an event, where it was `text` before
 abbrev pub stored_after : List ℕ → Event → List ℕ

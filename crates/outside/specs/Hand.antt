@@ -3,11 +3,11 @@ use Rattle.std.specs.Prelude.{◌≡◌, ◌⊎◌, ℕ, List, [], ◌∷◌, �
 use Rattle.basics.specs.declared.limits.TheConstants.{LONGEST_LINE}
 use Rattle.text_lines.specs.Lines.{is_line}
 use Rattle.outside.specs.declared.event.Event.{Event}
-use Rattle.outside.specs.declared.event.Event.TheVariants.{Opened, Took, TookEnd, Committed, Emitted, Merged, Shown}
 use Rattle.outside.specs.declared.fault.Fault.{Fault}
 use Rattle.outside.specs.declared.fault.Fault.TheVariants as fault
 use Rattle.outside.specs.declared.link.Polled.{Polled}
 use Rattle.outside.specs.declared.link.Polled.TheVariants as polled
+use Rattle.outside.specs.Event.{took_in, emitted_in}
 
 pub record Hand : Type 0 where
   -- the lines that were pushed and not given
@@ -97,14 +97,6 @@ IsTakenFrom None before now = (before ≡ []) × (now ≡ [])
 IsTakenFrom (Some line) before now = before ≡ line ∷ now
 
 -- What a call moves: the events and the hand together
-
-abbrev pub took_in : Event → Option (List ℕ)
-took_in (Took line) = Some line
-took_in event = None
-
-abbrev pub emitted_in : Event → Option (List ℕ)
-emitted_in (Emitted line) = Some line
-emitted_in event = None
 
 -- the lines of the input that were not given
 abbrev pub unread : Hand → List (List ℕ)

@@ -14,3 +14,4 @@ pub mod Hand
 pub mod Dock
 pub mod ByteStreams
 pub mod Rows
+pub mod Feed

@@ -7,6 +7,7 @@ mod dock;
 mod event;
 mod fault;
 mod faults;
+mod feed;
 mod line;
 mod link;
 mod load;
@@ -33,6 +34,7 @@ pub use event::{
 };
 pub use fault::Fault;
 pub use faults::{Breach, CatalogFault, ConfigFault, InputKind, Side, StateFault};
+pub use feed::Feed;
 pub use line::{NumberedRow, NumberedRowList, SeqLine, SeqLineList, StreamIdList};
 pub use link::{Link, LinkCounts, LinkFace, Offered, PollKind, Polled};
 pub use load::{DockCounts, Limits, Load, Marks, MarksList, Unmerged};

@@ -2,6 +2,7 @@
 ghost use Rattle.std.specs.Prelude.{◌≡◌, ◌<◌, IfOk, IsErrOf};
 ghost use Rattle.basics.specs.Told.{RoseIf};
 ghost use Rattle.outside.specs.Dock.{OpensCount};
+ghost use Rattle.outside.specs.FaultCounts.{StaysUnlessFailed};
 ghost use Rattle.outside.specs.Rows.{RowsSeen, AreInOrder, IsPage, IsFirstAfter};
 
 use crate::{Fault, NumberedRowList};
@@ -19,6 +20,7 @@ pub trait RowStore {
     fn open_rows(&mut self, name: &str) -> Result<(), Fault>
         ensures order { AreInOrder (seen self.new) }
         ensures faults { RoseIf (IsErrOf result Fault.Failed) (seen self.old).faults (seen self.new).faults }
+        ensures stays { StaysUnlessFailed result (seen self.old).faults (seen self.new).faults }
         ensures opens { OpensCount result (seen self.old).opens (seen self.new).opens }
         ensures others { seen self.new ≡ record (seen self.old) { faults = (seen self.new).faults; opens = (seen self.new).opens } };
 
@@ -37,5 +39,6 @@ pub trait RowStore {
         ensures first { IfOk result (IsFirstAfter (seen self.old) table.now after most) }
         ensures order { AreInOrder (seen self.new) }
         ensures faults { RoseIf (IsErrOf result Fault.Failed) (seen self.old).faults (seen self.new).faults }
+        ensures stays { StaysUnlessFailed result (seen self.old).faults (seen self.new).faults }
         ensures others { seen self.new ≡ record (seen self.old) { faults = (seen self.new).faults } };
 }

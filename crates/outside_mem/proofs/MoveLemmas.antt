@@ -6,8 +6,9 @@ use Rattle.outside.specs.declared.event.Event.{Event}
 use Rattle.outside.specs.declared.event.Event.TheVariants.{Took, TookEnd, Emitted}
 use Rattle.outside.specs.declared.link.Polled.{Polled}
 use Rattle.outside.specs.declared.link.Polled.TheVariants as polled
-use Rattle.outside.specs.Hand.{Hand, HandMoved, HandPolls, HandGave, hand_answer, hand_emitted, took_in, emitted_in, is_long}
+use Rattle.outside.specs.Hand.{Hand, HandMoved, HandPolls, HandGave, hand_answer, hand_emitted, is_long}
 use Rattle.outside.specs.Dock.{DockMoves, is_opening, took_over, event_of, dock_events}
+use Rattle.outside.specs.Event.{took_in, emitted_in}
 use Rattle.outside.proofs.ToldLaws.{told_none}
 use Rattle.outside.proofs.WinnerLaws.{by_bool}
 use Rattle.outside_mem.specs.MemDock.{ToldEvent, told, DockState, seen_of, Gives, given_trace, ended, hand_of}

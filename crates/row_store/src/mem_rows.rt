@@ -113,6 +113,7 @@ impl RowStore for MemRows {
     ghost use Rattle.std.specs.Prelude.{◌≡◌, ◌<◌, IfOk, OnOk, IsErrOf, Contains};
     ghost use Rattle.basics.specs.Told.{RoseIf};
     ghost use Rattle.outside.specs.Dock.{OpensCount};
+    ghost use Rattle.outside.specs.FaultCounts.{StaysUnlessFailed};
     ghost use Rattle.outside.specs.Rows.{AreInOrder, IsPage, IsFirstAfter};
     ghost use Rattle.outside_mem.specs.Calls.{call_made, next_call};
     ghost use Rattle.outside_mem.specs.MemDesk.{fault_after};
@@ -124,6 +125,7 @@ impl RowStore for MemRows {
     fn open_rows(&mut self, _name: &str) -> Result<(), Fault>
         ensures order { AreInOrder (seen_of self.new) }
         ensures faults { RoseIf (IsErrOf result Fault.Failed) self.old.faults self.new.faults }
+        ensures stays { StaysUnlessFailed result self.old.faults self.new.faults }
         ensures opens { OpensCount result self.old.opens self.new.opens }
         ensures others { seen_of self.new ≡ record (seen_of self.old) { faults = self.new.faults; opens = self.new.opens } }
         ensures failed { IsErrOf result Fault.Failed ↔ Contains self.old.calls.fails (next_call self.old.calls) }
@@ -149,6 +151,7 @@ impl RowStore for MemRows {
         ensures first { IfOk result (IsFirstAfter (seen_of self.old) table.now after most) }
         ensures order { AreInOrder (seen_of self.new) }
         ensures faults { RoseIf (IsErrOf result Fault.Failed) self.old.faults self.new.faults }
+        ensures stays { StaysUnlessFailed result self.old.faults self.new.faults }
         ensures others { seen_of self.new ≡ record (seen_of self.old) { faults = self.new.faults } }
         ensures failed { IsErrOf result Fault.Failed ↔ Contains self.old.calls.fails (next_call self.old.calls) }
         ensures counted { self.new ≡ record (self.old) { calls = call_made self.old.calls; faults = fault_after result self.old.faults } }

@@ -1,6 +1,7 @@
 // Reading a whole table.
 ghost use Rattle.std.specs.Prelude.{◌≡◌, ◌<◌, IfOk, IsErrOf};
 ghost use Rattle.basics.specs.Told.{RoseIf};
+ghost use Rattle.outside.specs.FaultCounts.{StaysUnlessFailed};
 ghost use Rattle.outside.specs.Rows.{AreInOrder, AreRising};
 ghost use Rattle.row_store.specs.Pages.{AreOfTable, SoFar, AddsPage, last_id_of};
 
@@ -22,6 +23,7 @@ pub fn all_rows<R: RowStore>(
     ensures rows { IfOk result (AreOfTable (R.seen store.old) table.now) }
     ensures order { AreInOrder (R.seen store.new) }
     ensures faults { RoseIf (IsErrOf result Fault.Failed) (R.seen store.old).faults (R.seen store.new).faults }
+    ensures stays { StaysUnlessFailed result (R.seen store.old).faults (R.seen store.new).faults }
     ensures others { R.seen store.new ≡ record (R.seen store.old) { faults = (R.seen store.new).faults } }
 {
     let mut rows = NumberedRowList::new(alloc);
@@ -46,6 +48,7 @@ fn add_page<R: RowStore>(
     ensures more { IfOk result (AddsPage (R.seen store.old).rows table.now after rows.old rows.new) }
     ensures order { AreInOrder (R.seen store.new) }
     ensures faults { RoseIf (IsErrOf result Fault.Failed) (R.seen store.old).faults (R.seen store.new).faults }
+    ensures stays { StaysUnlessFailed result (R.seen store.old).faults (R.seen store.new).faults }
     ensures others { R.seen store.new ≡ record (R.seen store.old) { faults = (R.seen store.new).faults } }
 {
     let page = store.page_after(alloc, table, after, PAGE)?;

@@ -11,6 +11,7 @@ use Rattle.outside.specs.declared.event.Codes.{Codes}
 use Rattle.outside.specs.declared.event.RawRow.{RawRow}
 use Rattle.outside.specs.declared.event.AttemptPlan.{AttemptPlan}
 use Rattle.outside.specs.declared.event.Exit.TheVariants as exit
+use Rattle.outside.specs.Event.{read_in, given_in, got_in}
 use Rattle.airbyte_message.specs.declared.message.Message.{Message}
 use Rattle.airbyte_message.specs.declared.message.Message.TheVariants as message
 use Rattle.airbyte_message.specs.declared.message.RecordMsg.{RecordMsg}
@@ -22,7 +23,7 @@ use Rattle.airbyte_message.specs.declared.message.TraceMsg.TheVariants as trace
 use Rattle.worker_run.specs.TakenLines.{FoundLine, TakenLine, record_line, state_line, other_line, taken_text, found_of, Counted, none_counted, counted_after, counted_through, Fits, FitsState, AreTaken, KindIsOf, IsPassedTrace, IsPassedOver}
 use Rattle.worker_run.specs.Store.{store_text}
 use Rattle.worker_run.specs.World.{World, row_of, stream_plan, attempt_plan, first_events, taken_events, all_taken_events, last_events, record_events, state_events}
-use Rattle.worker_run.specs.EventParts.{read_line, given_line, got_line, rows_of}
+use Rattle.worker_run.specs.EventParts.{rows_of}
 use Rattle.worker_run.specs.Reached.{IsReached, ending_events}
 use Rattle.airbyte_message.specs.Lanes.{Covers}
 use Rattle.worker_run.specs.SafeSync.{attempt_after, attempt, found_text, PassesKind, PassesTrace, Passes, ArePassed, GivesPassed, ReadState, states_behind, Takes, StartsSafely, SavesNothing, SavesTaken, IsSafeSoFar, IsSafeSync}
@@ -78,19 +79,19 @@ safe_more stream events event safe so_far front rest e = along (prefix_cases eve
 
 -- what was read and what was given in the attempt so far
 abbrev reads : List Event → List (List ℕ)
-reads events = filter_map read_line (attempt events)
+reads events = filter_map read_in (attempt events)
 
 abbrev gives : List Event → List (List ℕ)
-gives events = filter_map given_line (attempt events)
+gives events = filter_map given_in (attempt events)
 
 attempt_more : (events : List Event) (event : Event) → attempt (events ++ event ∷ []) ≡ attempt_after (attempt events) event
 attempt_more events event = fold-append attempt_after [] events (event ∷ [])
 
-reads_more : (events : List Event) (event : Event) → attempt_after (attempt events) event ≡ attempt events ++ event ∷ [] → reads (events ++ event ∷ []) ≡ reads events ++ filter_map read_line (event ∷ [])
-reads_more events event goes_on = ap (λ (es : List Event). filter_map read_line es) (attempt_more events event ∙ goes_on) ∙ filter_map-append read_line (attempt events) (event ∷ [])
+reads_more : (events : List Event) (event : Event) → attempt_after (attempt events) event ≡ attempt events ++ event ∷ [] → reads (events ++ event ∷ []) ≡ reads events ++ filter_map read_in (event ∷ [])
+reads_more events event goes_on = ap (λ (es : List Event). filter_map read_in es) (attempt_more events event ∙ goes_on) ∙ filter_map-append read_in (attempt events) (event ∷ [])
 
-gives_more : (events : List Event) (event : Event) → attempt_after (attempt events) event ≡ attempt events ++ event ∷ [] → gives (events ++ event ∷ []) ≡ gives events ++ filter_map given_line (event ∷ [])
-gives_more events event goes_on = ap (λ (es : List Event). filter_map given_line es) (attempt_more events event ∙ goes_on) ∙ filter_map-append given_line (attempt events) (event ∷ [])
+gives_more : (events : List Event) (event : Event) → attempt_after (attempt events) event ≡ attempt events ++ event ∷ [] → gives (events ++ event ∷ []) ≡ gives events ++ filter_map given_in (event ∷ [])
+gives_more events event goes_on = ap (λ (es : List Event). filter_map given_in es) (attempt_more events event ∙ goes_on) ∙ filter_map-append given_in (attempt events) (event ∷ [])
 
 -- the lines that are passed on, of lines that were taken
 
@@ -164,15 +165,15 @@ plain_so_far stream taken_lines events event rest plain at = record {
 pub record IsNeutral (event : Event) : Type 0 where
   pub plain : IsPlain event
   pub goes_on : (events : List Event) → attempt_after events event ≡ events ++ event ∷ []
-  pub not_read : filter_map read_line (event ∷ []) ≡ []
-  pub not_given : filter_map given_line (event ∷ []) ≡ []
+  pub not_read : filter_map read_in (event ∷ []) ≡ []
+  pub not_given : filter_map given_in (event ∷ []) ≡ []
 
 -- the events so far are safe, and all lines that are passed on were given
 pub record IsSafeEven (stream : List ℕ) (taken_lines : List TakenLine) (events : List Event) : Type 0 where
   pub safe : IsSafeSync stream events
   pub at : IsAt stream taken_lines events []
 
-stays_at : (stream : List ℕ) (taken_lines : List TakenLine) (events : List Event) (event : Event) → attempt_after (attempt events) event ≡ attempt events ++ event ∷ [] → filter_map read_line (event ∷ []) ≡ [] → filter_map given_line (event ∷ []) ≡ [] → IsAt stream taken_lines events [] → IsAt stream taken_lines (events ++ event ∷ []) []
+stays_at : (stream : List ℕ) (taken_lines : List TakenLine) (events : List Event) (event : Event) → attempt_after (attempt events) event ≡ attempt events ++ event ∷ [] → filter_map read_in (event ∷ []) ≡ [] → filter_map given_in (event ∷ []) ≡ [] → IsAt stream taken_lines events [] → IsAt stream taken_lines (events ++ event ∷ []) []
 stays_at stream taken_lines events event goes_on not_read not_given at = record {
   fits = at.fits;
   read = reads_more events event goes_on ∙ (ap (λ (ls : List (List ℕ)). reads events ++ ls) not_read ∙ (append-nil (reads events) ∙ at.read));
@@ -376,13 +377,13 @@ records_in (record_line line content ∷ taken_lines) = content ∷ records_in t
 records_in (state_line line state echo ∷ taken_lines) = records_in taken_lines
 records_in (other_line line found ∷ taken_lines) = records_in taken_lines
 
-taken_reads : (stream : List ℕ) (counted : Counted) (taken_lines : List TakenLine) → filter_map read_line (all_taken_events stream counted taken_lines) ≡ map taken_text taken_lines
+taken_reads : (stream : List ℕ) (counted : Counted) (taken_lines : List TakenLine) → filter_map read_in (all_taken_events stream counted taken_lines) ≡ map taken_text taken_lines
 taken_reads stream counted [] = refl
 taken_reads stream counted (record_line line content ∷ taken_lines) = ap (λ (ls : List (List ℕ)). line ∷ ls) (taken_reads stream (counted_after counted (record_line line content)) taken_lines)
 taken_reads stream counted (state_line line state echo ∷ taken_lines) = ap (λ (ls : List (List ℕ)). line ∷ ls) (taken_reads stream (counted_after counted (state_line line state echo)) taken_lines)
 taken_reads stream counted (other_line line found ∷ taken_lines) = ap (λ (ls : List (List ℕ)). line ∷ ls) (taken_reads stream counted taken_lines)
 
-taken_got : (stream : List ℕ) (counted : Counted) (taken_lines : List TakenLine) → filter_map got_line (all_taken_events stream counted taken_lines) ≡ echoes_of taken_lines
+taken_got : (stream : List ℕ) (counted : Counted) (taken_lines : List TakenLine) → filter_map got_in (all_taken_events stream counted taken_lines) ≡ echoes_of taken_lines
 taken_got stream counted [] = refl
 taken_got stream counted (record_line line content ∷ taken_lines) = taken_got stream (counted_after counted (record_line line content)) taken_lines
 taken_got stream counted (state_line line state echo ∷ taken_lines) = ap (λ (ls : List (List ℕ)). echo ∷ ls) (taken_got stream (counted_after counted (state_line line state echo)) taken_lines)
@@ -452,13 +453,13 @@ saves_state stream line echo taken_lines state are fits = record {
     attempt_events : attempt (first_events stream ++ (all_taken_events stream none_counted taken_lines ++ front_of_state line echo)) ≡ all_taken_events stream none_counted taken_lines ++ front_of_state line echo
     attempt_events = attempt_is stream (all_taken_events stream none_counted taken_lines ++ front_of_state line echo) (no_start_append (all_taken_events stream none_counted taken_lines) (front_of_state line echo) (taken_start_nothing stream none_counted taken_lines) tt)
 
-    read : filter_map read_line (attempt (first_events stream ++ (all_taken_events stream none_counted taken_lines ++ front_of_state line echo))) ≡ map taken_text (taken_lines ++ state_line line state echo ∷ [])
+    read : filter_map read_in (attempt (first_events stream ++ (all_taken_events stream none_counted taken_lines ++ front_of_state line echo))) ≡ map taken_text (taken_lines ++ state_line line state echo ∷ [])
     read =
-        ap (λ (es : List Event). filter_map read_line es) attempt_events ∙ (filter_map-append read_line (all_taken_events stream none_counted taken_lines) (front_of_state line echo) ∙ (ap (λ (ls : List (List ℕ)). ls ++ line ∷ []) (taken_reads stream none_counted taken_lines) ∙ sym (map-append taken_text taken_lines (state_line line state echo ∷ []))))
+        ap (λ (es : List Event). filter_map read_in es) attempt_events ∙ (filter_map-append read_in (all_taken_events stream none_counted taken_lines) (front_of_state line echo) ∙ (ap (λ (ls : List (List ℕ)). ls ++ line ∷ []) (taken_reads stream none_counted taken_lines) ∙ sym (map-append taken_text taken_lines (state_line line state echo ∷ []))))
 
-    got : filter_map got_line (attempt (first_events stream ++ (all_taken_events stream none_counted taken_lines ++ front_of_state line echo))) ≡ echoes_of (taken_lines ++ state_line line state echo ∷ [])
+    got : filter_map got_in (attempt (first_events stream ++ (all_taken_events stream none_counted taken_lines ++ front_of_state line echo))) ≡ echoes_of (taken_lines ++ state_line line state echo ∷ [])
     got =
-        ap (λ (es : List Event). filter_map got_line es) attempt_events ∙ (filter_map-append got_line (all_taken_events stream none_counted taken_lines) (front_of_state line echo) ∙ (ap (λ (ls : List (List ℕ)). ls ++ echo ∷ []) (taken_got stream none_counted taken_lines) ∙ sym (echoes_more taken_lines)))
+        ap (λ (es : List Event). filter_map got_in es) attempt_events ∙ (filter_map-append got_in (all_taken_events stream none_counted taken_lines) (front_of_state line echo) ∙ (ap (λ (ls : List (List ℕ)). ls ++ echo ∷ []) (taken_got stream none_counted taken_lines) ∙ sym (echoes_more taken_lines)))
       where
         echoes_more : (rs : List TakenLine) → echoes_of (rs ++ state_line line state echo ∷ []) ≡ echoes_of rs ++ echo ∷ []
         echoes_more [] = refl

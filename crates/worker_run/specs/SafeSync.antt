@@ -5,6 +5,7 @@ use Rattle.std.specs.List.{AllByRecursion, filter_map, enumerate_from}
 use Rattle.outside.specs.declared.event.Event.{Event}
 use Rattle.outside.specs.declared.event.Event.TheVariants.{Started, Saved}
 use Rattle.outside.specs.declared.event.AttemptPlan.{AttemptPlan}
+use Rattle.outside.specs.Event.{read_in, given_in, got_in, saved_in}
 use Rattle.airbyte_message.specs.Messages.{IsMessage}
 use Rattle.airbyte_message.specs.Echo.{IsEcho}
 use Rattle.airbyte_message.specs.Lanes.{Covers}
@@ -20,7 +21,7 @@ use Rattle.json_fields.specs.Answer.{IsAnswer}
 use Rattle.worker_run.specs.TakenLines.{FoundLine, IsOfStream}
 use Rattle.worker_run.specs.Store.{store_text, states_text}
 use Rattle.worker_run.specs.World.{row_of}
-use Rattle.worker_run.specs.EventParts.{read_line, given_line, got_line, saved_text, rows_of}
+use Rattle.worker_run.specs.EventParts.{rows_of}
 
 -- a message that is passed on: a record, a state or a status of the stream, or a state of all streams
 abbrev pub PassesKind : List ℕ → StateKind → Type 0
@@ -64,7 +65,7 @@ attempt events = fold attempt_after [] events
 
 -- the text that was saved last
 abbrev pub last_saved : List Event → Option (List ℕ)
-last_saved events = fold (λ found event. kept found (saved_text event)) None events
+last_saved events = fold (λ found event. kept found (saved_in event)) None events
   where
     kept : Option (List ℕ) → Option (List ℕ) → Option (List ℕ)
     kept found None = found
@@ -109,17 +110,17 @@ pub record StartsSafely (stream : List ℕ) (before : List Event) (plan : Attemp
 
 -- the store's text before any state
 pub record SavesNothing (stream : List ℕ) (before : List Event) (text : List ℕ) : Type 0 where
-  pub first : filter_map saved_text before ≡ []
+  pub first : filter_map saved_in before ≡ []
   pub text_is : text ≡ store_text stream None
 
 -- The text holds the state that the last echo takes, and each record that it covers and that was read before it stands
 -- committed in this attempt, as the row of its own line with its number.
 pub record SavesTaken (stream : List ℕ) (before : List Event) (text : List ℕ) : Type 0 where
   pub passed : List FoundLine
-  pub are : ArePassed stream (filter_map read_line (attempt before)) passed
+  pub are : ArePassed stream (filter_map read_in (attempt before)) passed
   pub taken : List ReadState
   pub last : ReadState
-  pub takes : Takes (filter_map got_line (attempt before)) (states_behind [] passed) (taken ++ last ∷ [])
+  pub takes : Takes (filter_map got_in (attempt before)) (states_behind [] passed) (taken ++ last ∷ [])
   pub text_is : text ≡ store_text stream (Some last.state.object)
   pub committed : AllByRecursion (λ numbered. Covers last.state numbered.1 → Contains (flat_map rows_of (attempt before)) (row_of numbered.0 numbered.1)) (enumerate_from 0 last.before)
 
@@ -132,7 +133,7 @@ pub record GivesPassed (stream : List ℕ) (reads gives : List (List ℕ)) : Typ
 
 -- the events so far are safe, as to the given lines and to the last event
 pub record IsSafeSoFar (stream : List ℕ) (events : List Event) : Type 0 where
-  pub given : GivesPassed stream (filter_map read_line (attempt events)) (filter_map given_line (attempt events))
+  pub given : GivesPassed stream (filter_map read_in (attempt events)) (filter_map given_in (attempt events))
   pub started : (before : List Event) (plan : AttemptPlan) → events ≡ before ++ Started plan ∷ [] → StartsSafely stream before plan
   pub saved : (before : List Event) (text : List ℕ) → events ≡ before ++ Saved text ∷ [] → SavesNothing stream before text ⊎ SavesTaken stream before text
 

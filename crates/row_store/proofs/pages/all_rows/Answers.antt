@@ -10,6 +10,6 @@ loop-rows-init g c =
     record {
       so_far = subst (λ (rows : List NumberedRow). SoFar told c.args.table.now 0 rows) (sym c.new-rows.ensures) (begins told c.args.table.now c.requires);
       order = c.requires;
-      faults = omega arith;
+      stays = refl;
       others = refl;
     }

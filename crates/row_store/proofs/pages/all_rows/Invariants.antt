@@ -7,7 +7,7 @@ abbrev pub invariant-loop-rows : goal.invariant-loop-rows
 invariant-loop-rows g l = record {
   so_far : SoFar (g.R.RowStore.seen l.fn.store).rows l.table l.after l.rows;
   order : AreInOrder (g.R.RowStore.seen l.store);
-  faults : (g.R.RowStore.seen l.fn.store).faults ≤ (g.R.RowStore.seen l.store).faults;
+  stays : (g.R.RowStore.seen l.store).faults ≡ (g.R.RowStore.seen l.fn.store).faults;
   others : g.R.RowStore.seen l.store ≡ record (g.R.RowStore.seen l.fn.store) { faults = (g.R.RowStore.seen l.store).faults };
 }
 

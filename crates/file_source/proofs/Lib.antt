@@ -1,0 +1,2 @@
+mod ResumeLemmas
+mod BlobLemmas

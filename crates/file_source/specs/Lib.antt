@@ -1,0 +1,4 @@
+pub mod Sheet
+pub mod Blob
+pub mod Rows
+pub mod Laws

@@ -1,0 +1,8 @@
+//! The source of CSV files.
+#![tactic(auto)]
+
+mod blob;
+mod laws;
+
+pub use blob::put_row_blob;
+pub use laws::{blobs_read_back, files_resume};

@@ -1,0 +1,5 @@
+pub mod CutLemmas
+mod TurnLemmas
+mod HeadLemmas
+mod LineLemmas
+mod GivingLemmas

@@ -1,0 +1,6 @@
+pub mod Lines
+pub mod Checkpoints
+pub mod Streams
+pub mod Turns
+pub mod Laws
+pub mod Heads
