@@ -21,7 +21,7 @@ use Rattle.load_rules.specs.Stores.{CommittedFits, IsStoreRun}
 use Rattle.load_rules.specs.Attempts.{Attempt, attempts, gives, gots, emits}
 use Rattle.load_rules.specs.Honest.{IsHonestAttempt, AddsHonestly}
 use Rattle.load_rules.specs.Engine.{OpensFirst, IsEngineRun}
-use Rattle.load_rules.specs.Machine.{Step, start, run, accepted, KeepsSequences, AreRows, IsDrained, flags, IsTail}
+use Rattle.load_rules.specs.Machine.{Machine, Step, start, run, accepted, CommitsOwnRows, BringsOwnRows, IsDrained, flags, IsTail}
 
 -- The machine
 
@@ -29,14 +29,25 @@ use Rattle.load_rules.specs.Machine.{Step, start, run, accepted, KeepsSequences,
 -- committed earlier; each commit is of rows of records that were accepted earlier, and none twice.
 abbrev pub RunsAreSafe : Type 0
 RunsAreSafe =
-    (streams : List ConfStream) (opening : Opening) (row : ℕ → Entry → RawRow) (steps : List Step)
-    → KeepsSequences row → AreRows streams opening row (run streams row steps start).acts → EachFits (Fits streams opening) [] (run streams row steps start).acts
+    (streams : List ConfStream) (opening : Opening) (steps : List Step)
+    → CommitsOwnRows streams opening (run streams steps start).acts → EachFits (Fits streams opening) [] (run streams steps start).acts
+
+-- A run goes on with further steps as one run.
+abbrev pub RunsGrow : Type 0
+RunsGrow = (streams : List ConfStream) (steps more : List Step) (m : Machine) → run streams (steps ++ more) m ≡ run streams more (run streams steps m)
+
+-- A safe run stays safe by one step more, where what that commits are the rows of the records in its batch.
+abbrev pub RunsStaySafe : Type 0
+RunsStaySafe =
+    (streams : List ConfStream) (opening : Opening) (steps : List Step) (step : Step)
+    → EachFits (Fits streams opening) [] (run streams steps start).acts → BringsOwnRows streams opening (run streams steps start) step
+    → EachFits (Fits streams opening) [] (run streams (steps ++ step ∷ []) start).acts
 
 -- Where nothing is queued or handed out and no state is releasable, no state waits.
 abbrev pub NoStateIsLeft : Type 0
 NoStateIsLeft =
-    (streams : List ConfStream) (row : ℕ → Entry → RawRow) (steps : List Step)
-    → KeepsSequences row → IsDrained (run streams row steps start) → (run streams row steps start).waiting ≡ []
+    (streams : List ConfStream) (steps : List Step)
+    → IsDrained (run streams steps start) → (run streams steps start).waiting ≡ []
 
 -- all that was taken is committed and echoed
 pub record IsDone (acts : List Act) : Type 0 where
@@ -47,8 +58,8 @@ pub record IsDone (acts : List Act) : Type 0 where
 -- states are echoed, in their order.
 abbrev pub DrainedIsDone : Type 0
 DrainedIsDone =
-    (streams : List ConfStream) (row : ℕ → Entry → RawRow) (steps : List Step)
-    → KeepsSequences row → IsDrained (run streams row steps start) → IsDone (run streams row steps start).acts
+    (streams : List ConfStream) (steps : List Step)
+    → IsDrained (run streams steps start) → IsDone (run streams steps start).acts
 
 pub record EndAlike (first second : List Act) : Type 0 where
   pub committed_alike : (seq : ℕ) → is_in seq (committed first) ≡ is_in seq (committed second)
@@ -58,14 +69,13 @@ pub record EndAlike (first second : List Act) : Type 0 where
 -- order their other steps took, and whatever else than their sequences the rows of each have.
 abbrev pub OrderIsFree : Type 0
 OrderIsFree =
-    (streams : List ConfStream) (row other : ℕ → Entry → RawRow) (first second : List Step)
-    → KeepsSequences row → KeepsSequences other → accepted first ≡ accepted second
-    → IsDrained (run streams row first start) → IsDrained (run streams other second start)
-    → EndAlike (run streams row first start).acts (run streams other second start).acts
+    (streams : List ConfStream) (first second : List Step)
+    → accepted first ≡ accepted second → IsDrained (run streams first start) → IsDrained (run streams second start)
+    → EndAlike (run streams first start).acts (run streams second start).acts
 
 -- sealed records of a stream stand in front of unsealed ones, whatever was handed out and taken back
 abbrev pub SealedInFront : Type 0
-SealedInFront = (streams : List ConfStream) (row : ℕ → Entry → RawRow) (steps : List Step) (id : StreamId) → IsTail (flags id (run streams row steps start).placed)
+SealedInFront = (streams : List ConfStream) (steps : List Step) (id : StreamId) → IsTail (flags id (run streams steps start).placed)
 
 -- Loads
 

@@ -1,9 +1,19 @@
 // The laws of loads, each as the contract of a function that does nothing.
-ghost use Rattle.load_rules.specs.Laws.{AttemptsAreSafe, DrainedIsDone, FrontsAreRuns, FrontsAreSafe, HeldAreUncommitted, HonestAttemptsAdd, LanesCover, NoStateIsLeft, OpeningIsSafe, OrderIsFree, PipesAreHonest, PrefixesFit, RowsAreOwn, RunsAreSafe, SafeCommitsFit, SealedInFront, StaysSafe, StoreMergesFit};
+ghost use Rattle.load_rules.specs.Laws.{AttemptsAreSafe, DrainedIsDone, FrontsAreRuns, FrontsAreSafe, HeldAreUncommitted, HonestAttemptsAdd, LanesCover, NoStateIsLeft, OpeningIsSafe, OrderIsFree, PipesAreHonest, PrefixesFit, RowsAreOwn, RunsAreSafe, RunsGrow, RunsStaySafe, SafeCommitsFit, SealedInFront, StaysSafe, StoreMergesFit};
 
 /// Whatever the machine does, its load is safe.
 pub fn runs_are_safe()
     ensures { RunsAreSafe }
+{}
+
+/// A run goes on with further steps as one run.
+pub fn runs_grow()
+    ensures { RunsGrow }
+{}
+
+/// A safe run stays safe by one step more, which commits the rows of its records.
+pub fn runs_stay_safe()
+    ensures { RunsStaySafe }
 {}
 
 /// What fits event by event fits in every prefix.
