@@ -5,7 +5,7 @@ use Rattle.std.specs.List.{AllByRecursion, list_all}
 use Rattle.std.proofs.lemmas.List.Elements.{Contains-append_left, Contains-append_right, Contains-append_cases, Contains-push, Contains-push_cases}
 use Rattle.std.proofs.lemmas.Option.{slice_get-get_or}
 use Rattle.std.proofs.Math.Seq.{get_or-append_seam}
-use Rattle.std.proofs.lemmas.Bool.{and_parts, eq-eqb, eqb-true, false≢true, or_right}
+use Rattle.std.proofs.lemmas.Bool.{and_parts, cases_Bool, eq-eqb, eqb-true, false≢true, or_right}
 use Rattle.basics.specs.declared.stream.StreamId.{StreamId}
 use Rattle.outside.specs.Tables.{same_id}
 use Rattle.outside.specs.declared.event.RawRow.{RawRow}
@@ -17,9 +17,10 @@ use Rattle.load_rules.specs.Rows.{IsRowOf}
 use Rattle.load_rules.specs.Acts.{Act, Takes, Ends, Commits, Echoes, Turns, taken, committed, echoed}
 use Rattle.load_rules.specs.SafeDest.{uncommitted, AreRowsOf, CommitFits, EchoFits, Fits}
 use Rattle.load_rules.specs.Machine.{Placed, Machine, Step, Accept, End, Seal, HandOut, Commit, TakeBack, Release, Turn, start, is_out, is_done, is_of, is_in_batch, entry_of, in_batch, is_releasable, without_first, have_sequences, hands_out, happens, run, RowsFit, CommitsOwnRows, BringsOwnRows}
-use Rattle.load_rules.specs.Laws.{RunsAreSafe, RunsGrow, RunsStaySafe}
+use Rattle.outside.proofs.TableLaws.{id_is}
+use Rattle.load_rules.specs.Laws.{CommitsHeld, FitsInOrder, RunsAreOrdered, RunsAreSafe, RunsGrow, RunsStaySafe}
 use Rattle.load_rules.proofs.TakenLists.{each_more, all_both, filter_twice}
-use Rattle.load_rules.proofs.Machines.{IsMarked, IsGood, seqs, picked_is, numbered_placed, good_step, good_run, good_start, found_passes, out_is_not_done, first_of_lane}
+use Rattle.load_rules.proofs.Machines.{IsMarked, IsGood, seqs, sequences_are, picked_is, numbered_placed, good_step, good_run, good_start, found_passes, out_is_not_done, first_of_lane}
 use Rattle.load_rules.proofs.Fronts.{each_front, each_at}
 
 -- Elements
@@ -224,6 +225,46 @@ safe_step streams opening m step g safe = at (added streams m step)
 safe_run : (streams : List ConfStream) (opening : Opening) (steps : List Step) (m : Machine) → IsGood m → IsSafeRun streams opening m.acts → IsSafeRun streams opening (run streams steps m).acts
 safe_run streams opening [] m g safe = safe
 safe_run streams opening (step ∷ steps) m g safe = safe_run streams opening steps (happens streams m step) (good_step streams m step g) (safe_step streams opening m step g safe)
+
+-- By sequences alone
+
+batch_own : (id : StreamId) (batch : ℕ) (own : StreamId) (list : List Placed) → own ≡ id → AllByRecursion (λ entry. entry.content.id ≡ own) (in_batch id batch list)
+batch_own id batch own [] same = tt
+batch_own id batch own (first ∷ more) same = at (cases_Bool (is_in_batch id batch first)) (batch_own id batch own more same)
+  where
+    at : (is_in_batch id batch first ≡ true) ⊎ (is_in_batch id batch first ≡ false) → AllByRecursion (λ entry. entry.content.id ≡ own) (in_batch id batch more) → AllByRecursion (λ entry. entry.content.id ≡ own) (in_batch id batch (first ∷ more))
+    at (inl within) rest = rw within (sym (id_is id first.entry.content.id (and_parts (is_out batch first.place) (is_of id first) within).1) ∙ sym same, rest)
+    at (inr other) rest = rw other rest
+
+commits_held : (streams : List ConfStream) (m : Machine) (number : ℕ) (id : StreamId) (batch : ℕ) (rows : List RawRow) → IsGood m → CommitsNow streams m number id batch rows → CommitsHeld streams m.acts number rows
+commits_held streams m number id batch rows g now = record {
+  stream = now.stream;
+  configured = now.configured;
+  chosen = λ entry. is_in entry.seq (seqs (in_batch id batch m.placed));
+  own = subst (AllByRecursion (λ entry. entry.content.id ≡ now.stream.id)) (sym (chosen_are m id batch g)) (batch_own id batch now.stream.id m.placed (id_is now.stream.id id now.own));
+  are = sequences_are rows (in_batch id batch m.placed) now.have ∙ ap seqs (sym (chosen_are m id batch g));
+}
+
+added_in_order : (streams : List ConfStream) (m : Machine) (step : Step) (act : Act) → IsGood m → AddedBy streams m step act → FitsInOrder streams m.acts act
+added_in_order streams m (Accept line) act g by = subst (FitsInOrder streams m.acts) (sym by) tt
+added_in_order streams m End act g by = subst (FitsInOrder streams m.acts) (sym by) tt
+added_in_order streams m (Seal id count) act g by = absurd by
+added_in_order streams m (HandOut id count batch) act g by = absurd by
+added_in_order streams m (Commit number id batch rows) act g by = subst (FitsInOrder streams m.acts) (sym by.0) (commits_held streams m number id batch rows g by.1)
+added_in_order streams m (TakeBack id batch) act g by = absurd by
+added_in_order streams m Release act g by = subst (FitsInOrder streams m.acts) (sym by.echo) (echo_fits m by.state g by.first)
+added_in_order streams m Turn act g by = subst (FitsInOrder streams m.acts) (sym by) tt
+
+ordered_run : (streams : List ConfStream) (steps : List Step) (m : Machine) → IsGood m → EachFits (FitsInOrder streams) [] m.acts → EachFits (FitsInOrder streams) [] (run streams steps m).acts
+ordered_run streams [] m g fits = fits
+ordered_run streams (step ∷ steps) m g fits = ordered_run streams steps (happens streams m step) (good_step streams m step g) (at (added streams m step))
+  where
+    at : ((happens streams m step).acts ≡ m.acts) ⊎ Added streams m step → EachFits (FitsInOrder streams) [] (happens streams m step).acts
+    at (inl same) = subst (EachFits (FitsInOrder streams) []) (sym same) fits
+    at (inr more) = subst (EachFits (FitsInOrder streams) []) (sym more.is) (each_more (FitsInOrder streams) [] m.acts more.act fits (added_in_order streams m step more.act g more.by))
+
+pub runs_are_ordered : RunsAreOrdered
+runs_are_ordered streams steps = ordered_run streams steps start good_start tt
 
 pub runs_are_safe : RunsAreSafe
 runs_are_safe streams opening steps own = safe_run streams opening steps start good_start (λ none. tt) own

@@ -1,5 +1,5 @@
 -- What holds of each load, of each run of the machine, and of the attempts of a trace.
-use Rattle.std.specs.Prelude.{◌≡◌, ℕ, ◌<◌, ◌^◌, List, map, [], ◌∷◌, ◌++◌, length, Bool, not, true, false, Contains, ◌↔◌}
+use Rattle.std.specs.Prelude.{◌≡◌, ℕ, ◌<◌, ◌^◌, List, map, filter, [], ◌∷◌, ◌++◌, length, slice_get, Some, Bool, not, true, false, Contains, ◌↔◌}
 use Rattle.std.specs.List.{AllByRecursion, take_while}
 use Rattle.basics.specs.declared.stream.StreamId.{StreamId}
 use Rattle.outside.specs.declared.event.Event.{Event}
@@ -15,8 +15,8 @@ use Rattle.load_rules.specs.Lines.{Reading, IsReading}
 use Rattle.load_rules.specs.Taken.{Entry, entries, covers, is_in, of_lane, states}
 use Rattle.load_rules.specs.Loads.{Opening, Load, loads, tooks, held_in}
 use Rattle.load_rules.specs.Rows.{IsRowOf}
-use Rattle.load_rules.specs.Acts.{Act, AreActs, Commits, taken, committed, echoed}
-use Rattle.load_rules.specs.SafeDest.{Fits, IsSafeLoad, IsSafeDest, uncommitted}
+use Rattle.load_rules.specs.Acts.{Act, AreActs, Commits, Echoes, taken, committed, echoed}
+use Rattle.load_rules.specs.SafeDest.{EchoFits, Fits, IsSafeLoad, IsSafeDest, uncommitted}
 use Rattle.load_rules.specs.Stores.{CommittedFits, IsStoreRun}
 use Rattle.load_rules.specs.Attempts.{Attempt, attempts, gives, gots, emits}
 use Rattle.load_rules.specs.Honest.{IsHonestAttempt, AddsHonestly}
@@ -24,6 +24,25 @@ use Rattle.load_rules.specs.Engine.{OpensFirst, IsEngineRun}
 use Rattle.load_rules.specs.Machine.{Machine, Step, start, run, accepted, CommitsOwnRows, BringsOwnRows, IsDrained, flags, IsTail}
 
 -- The machine
+
+-- A commit behind these acts is of records of the stream with its number that are uncommitted, in order, by their sequences alone.
+pub record CommitsHeld (streams : List ConfStream) (before : List Act) (number : ℕ) (rows : List RawRow) : Type 0 where
+  pub stream : ConfStream
+  pub configured : slice_get streams number ≡ Some stream
+  pub chosen : Entry → Bool
+  pub own : AllByRecursion (λ entry. entry.content.id ≡ stream.id) (filter chosen (uncommitted before))
+  pub are : map (λ row. row.seq) rows ≡ map (λ entry. entry.seq) (filter chosen (uncommitted before))
+
+-- an act may come behind these of its load, whatever else than their sequences the rows of a commit have
+abbrev pub FitsInOrder : List ConfStream → List Act → Act → Type 0
+FitsInOrder streams before (Commits number rows) = CommitsHeld streams before number rows
+FitsInOrder streams before (Echoes state) = EchoFits before state
+FitsInOrder streams before act = Unit {0}
+
+-- Every run from the empty state, whatever its rows: each emitted state is the next of its lane, with its count, and everything
+-- before it was committed earlier; each commit is of records of its stream that were accepted earlier, and none twice.
+abbrev pub RunsAreOrdered : Type 0
+RunsAreOrdered = (streams : List ConfStream) (steps : List Step) → EachFits (FitsInOrder streams) [] (run streams steps start).acts
 
 -- Every run from the empty state: each emitted state is the next of its lane, with its count, and everything before it was
 -- committed earlier; each commit is of rows of records that were accepted earlier, and none twice.
