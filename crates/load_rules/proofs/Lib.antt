@@ -14,3 +14,4 @@ pub mod Pipes
 pub mod Returns
 pub mod Honesty
 pub mod Held
+pub mod Finishes

@@ -17,6 +17,7 @@ use Rattle.load_rules.specs.Loads.{Opening, Load, loads, tooks, held_in}
 use Rattle.load_rules.specs.Rows.{IsRowOf}
 use Rattle.load_rules.specs.Acts.{Act, AreActs, Commits, Echoes, taken, committed, echoed}
 use Rattle.load_rules.specs.SafeDest.{EchoFits, Fits, IsSafeLoad, IsSafeDest, uncommitted}
+use Rattle.load_rules.specs.Finished.{IsFinished, IsIncomplete}
 use Rattle.load_rules.specs.Stores.{CommittedFits, IsStoreRun}
 use Rattle.load_rules.specs.Attempts.{Attempt, attempts, gives, gots, emits}
 use Rattle.load_rules.specs.Honest.{IsHonestAttempt, AddsHonestly}
@@ -164,6 +165,10 @@ abbrev pub SafeCommitsFit : Type 0
 SafeCommitsFit =
     (streams : List ConfStream) (read : Reading) (before : List Event) (number : ℕ) (rows : List RawRow)
     → IsSafeLast streams read (loads (before ++ event.Committed number rows ∷ [])) → CommittedFits before rows
+
+-- no load is finished, and incomplete as well
+abbrev pub FinishedIsComplete : Type 0
+FinishedIsComplete = (streams : List ConfStream) (read : Reading) (trace : List Event) (number : ℕ) → IsFinished streams read trace → ¬ IsIncomplete streams read trace number
 
 -- Attempts
 
