@@ -1,5 +1,5 @@
 -- A finished load is not incomplete.
-use Rattle.std.proofs.Common.{arith, ◌≡◌, List, [], ◌∷◌, refl, sym, ◌∙◌, subst}
+use Rattle.std.proofs.Common.{arith, ◌≡◌, List, ◌∷◌, sym, ◌∙◌, subst}
 use Rattle.load_rules.specs.Loads.{Load}
 use Rattle.load_rules.specs.Finished.{IsComplete}
 use Rattle.load_rules.specs.Laws.{FinishedIsComplete}

@@ -15,3 +15,4 @@ pub mod Returns
 pub mod Honesty
 pub mod Held
 pub mod Finishes
+pub mod HonestRuns

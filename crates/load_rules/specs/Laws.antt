@@ -20,7 +20,7 @@ use Rattle.load_rules.specs.SafeDest.{EchoFits, Fits, IsSafeLoad, IsSafeDest, un
 use Rattle.load_rules.specs.Finished.{IsFinished, IsIncomplete}
 use Rattle.load_rules.specs.Stores.{CommittedFits, IsStoreRun}
 use Rattle.load_rules.specs.Attempts.{Attempt, attempts, gives, gots, emits}
-use Rattle.load_rules.specs.Honest.{IsHonestAttempt, AddsHonestly}
+use Rattle.load_rules.specs.Honest.{IsHonestAttempt, IsHonest, AddsHonestly}
 use Rattle.load_rules.specs.Engine.{OpensFirst, IsEngineRun}
 use Rattle.load_rules.specs.Machine.{Machine, Step, start, run, accepted, CommitsOwnRows, BringsOwnRows, IsDrained, flags, IsTail}
 
@@ -178,12 +178,16 @@ PipeFits before (event.Took text) = IsPrefix (tooks before ++ text ∷ []) (give
 PipeFits before (event.Got text) = IsPrefix (gots before ++ text ∷ []) (emits before)
 PipeFits before event = Unit {0}
 
+-- an attempt whose lines go through two pipes, whole; the lines that it takes are fewer than a count can tell
+pub record HasWholeLines (attempt : Attempt) : Type 0 where
+  pub few : length (tooks attempt.events) < 2 ^ 64
+  pub pipes : EachFits PipeFits [] attempt.events
+
 -- whole lines through two pipes to a safe destination make an honest attempt
 abbrev pub PipesAreHonest : Type 0
 PipesAreHonest =
     (streams : List ConfStream) (read : Reading) (attempt : Attempt)
-    → IsReading read attempt.events → length (tooks attempt.events) < 2 ^ 64
-    → IsSafeDest streams read attempt.events → EachFits OpensFirst [] attempt.events → EachFits PipeFits [] attempt.events
+    → IsReading read attempt.events → IsSafeDest streams read attempt.events → EachFits OpensFirst [] attempt.events → HasWholeLines attempt
     → IsHonestAttempt streams read attempt
 
 -- An attempt of a run of the engine, by itself: a safe destination that opens one load, and does all else behind it.
@@ -197,6 +201,12 @@ AttemptsAreSafe = (streams : List ConfStream) (read : Reading) (trace : List Eve
 abbrev pub is_started : Event → Bool
 is_started (event.Started plan) = true
 is_started event = false
+
+-- The attempts of a run of the engine, with whole lines through two pipes in each, are honest.
+abbrev pub RunsAreHonest : Type 0
+RunsAreHonest =
+    (streams : List ConfStream) (read : Reading) (trace : List Event)
+    → IsReading read trace → IsEngineRun streams read trace → AllByRecursion HasWholeLines (attempts trace) → IsHonest streams read trace
 
 -- Where each attempt that the added events begin is honest, and nothing comes back before the first of them, the events add
 -- honestly, whatever was before.
