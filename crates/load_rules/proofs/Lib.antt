@@ -16,3 +16,5 @@ pub mod Honesty
 pub mod Held
 pub mod Finishes
 pub mod HonestRuns
+pub mod SideHolds
+pub mod Sides

@@ -9,7 +9,8 @@ use Rattle.catalog.specs.declared.stream.ConfStream.{ConfStream}
 use Rattle.outside.specs.declared.event.StreamPlan.{StreamPlan}
 use Rattle.outside.specs.Dock.{is_opening}
 use Rattle.airbyte_message.specs.Lanes.{Lane, LaneCovers}
-use Rattle.dedup_merge.specs.Merges.{MergesFit}
+use Rattle.outside.specs.Tables.{tables_of}
+use Rattle.dedup_merge.specs.Merges.{MergesFit, SideStands, merged_at}
 use Rattle.load_rules.specs.Prefixes.{EachFits, IsPrefix}
 use Rattle.load_rules.specs.Lines.{Reading, IsReading}
 use Rattle.load_rules.specs.Taken.{Entry, entries, covers, is_in, of_lane, states}
@@ -158,6 +159,11 @@ RowsAreOwn =
 -- the merges of a store whose events fit one another fit
 abbrev pub StoreMergesFit : Type 0
 StoreMergesFit = (trace : List Event) → IsStoreRun trace → MergesFit trace
+
+-- Along a run of a store, the load's side of each stream stands with the rows that were merged into it: at each opening, commit,
+-- merge and showing.
+abbrev pub SidesStand : Type 0
+SidesStand = (trace : List Event) (number : ℕ) → IsStoreRun trace → SideStands (tables_of trace) number (merged_at trace number)
 
 -- A commit that keeps its load safe has the number of that load, and sequences that are new in it, whatever stands before the
 -- load.

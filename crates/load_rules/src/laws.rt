@@ -1,5 +1,5 @@
 // The laws of loads, each as the contract of a function that does nothing.
-ghost use Rattle.load_rules.specs.Laws.{AttemptsAreSafe, DrainedIsDone, FinishedIsComplete, FrontsAreRuns, FrontsAreSafe, HeldAreUncommitted, HonestAttemptsAdd, LanesCover, NoStateIsLeft, OpeningIsSafe, OrderIsFree, PipesAreHonest, PrefixesFit, RowsAreOwn, RunsAreHonest, RunsAreOrdered, RunsAreSafe, RunsGrow, RunsStaySafe, SafeCommitsFit, SealedInFront, StaysSafe, StoreMergesFit};
+ghost use Rattle.load_rules.specs.Laws.{AttemptsAreSafe, DrainedIsDone, FinishedIsComplete, FrontsAreRuns, FrontsAreSafe, HeldAreUncommitted, HonestAttemptsAdd, LanesCover, NoStateIsLeft, OpeningIsSafe, OrderIsFree, PipesAreHonest, PrefixesFit, RowsAreOwn, RunsAreHonest, RunsAreOrdered, RunsAreSafe, RunsGrow, RunsStaySafe, SafeCommitsFit, SealedInFront, SidesStand, StaysSafe, StoreMergesFit};
 
 /// Whatever the machine does, its load is safe.
 pub fn runs_are_safe()
@@ -89,6 +89,11 @@ pub fn lanes_cover()
 /// The merges of a store whose events fit one another fit.
 pub fn store_merges_fit()
     ensures { StoreMergesFit }
+{}
+
+/// The load's side of each stream stands with what was merged into it.
+pub fn sides_stand()
+    ensures { SidesStand }
 {}
 
 /// A commit that keeps a trace safe has the number of its load, and new sequences.
