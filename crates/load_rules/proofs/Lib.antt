@@ -18,3 +18,5 @@ pub mod Finishes
 pub mod HonestRuns
 pub mod SideHolds
 pub mod Sides
+pub mod Stamps
+pub mod Seen

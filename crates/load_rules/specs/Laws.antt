@@ -9,7 +9,8 @@ use Rattle.catalog.specs.declared.stream.ConfStream.{ConfStream}
 use Rattle.outside.specs.declared.event.StreamPlan.{StreamPlan}
 use Rattle.outside.specs.Dock.{is_opening}
 use Rattle.airbyte_message.specs.Lanes.{Lane, LaneCovers}
-use Rattle.outside.specs.Tables.{tables_of}
+use Rattle.outside.specs.Tables.{tables_of, table_in}
+use Rattle.raw_tables.specs.Visible.{IsVisible}
 use Rattle.dedup_merge.specs.Merges.{MergesFit, SideStands, merged_at}
 use Rattle.load_rules.specs.Prefixes.{EachFits, IsPrefix}
 use Rattle.load_rules.specs.Lines.{Reading, IsReading}
@@ -18,7 +19,8 @@ use Rattle.load_rules.specs.Loads.{Opening, Load, loads, tooks, held_in}
 use Rattle.load_rules.specs.Rows.{IsRowOf}
 use Rattle.load_rules.specs.Acts.{Act, AreActs, Commits, Echoes, taken, committed, echoed}
 use Rattle.load_rules.specs.SafeDest.{EchoFits, Fits, IsSafeLoad, IsSafeDest, uncommitted}
-use Rattle.load_rules.specs.Finished.{IsFinished, IsIncomplete}
+use Rattle.load_rules.specs.Marks.{IsSeenOf}
+use Rattle.load_rules.specs.Finished.{is_dedup, StreamIsDone, IsFinished, IsIncomplete}
 use Rattle.load_rules.specs.Stores.{CommittedFits, IsStoreRun}
 use Rattle.load_rules.specs.Attempts.{Attempt, attempts, gives, gots, emits}
 use Rattle.load_rules.specs.Honest.{IsHonestAttempt, IsHonest, AddsHonestly}
@@ -164,6 +166,14 @@ StoreMergesFit = (trace : List Event) → IsStoreRun trace → MergesFit trace
 -- merge and showing.
 abbrev pub SidesStand : Type 0
 SidesStand = (trace : List Event) (number : ℕ) → IsStoreRun trace → SideStands (tables_of trace) number (merged_at trace number)
+
+-- Where a stream's part of a load is done, as each is in a finished load, what is visible of its table is what a reader is to see of
+-- all rows that were ever committed.
+abbrev pub VisibleIsSeen : Type 0
+VisibleIsSeen =
+    (trace : List Event) (number : ℕ) (stream : ConfStream) (rows : List RawRow)
+    → IsStoreRun trace → StreamIsDone (tables_of trace) number stream
+    → IsVisible (is_dedup stream.dest) (table_in (tables_of trace).streams stream.id) rows → IsSeenOf (is_dedup stream.dest) trace stream.id rows
 
 -- A commit that keeps its load safe has the number of that load, and sequences that are new in it, whatever stands before the
 -- load.

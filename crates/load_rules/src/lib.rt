@@ -8,5 +8,5 @@ pub use laws::{
     held_are_uncommitted, honest_attempts_add, lanes_cover, no_state_is_left, opening_is_safe,
     order_is_free, pipes_are_honest, prefixes_fit, rows_are_own, runs_are_honest, runs_are_ordered,
     runs_are_safe, runs_grow, runs_stay_safe, safe_commits_fit, sealed_in_front, sides_stand,
-    stays_safe, store_merges_fit,
+    stays_safe, store_merges_fit, visible_is_seen,
 };
