@@ -20,3 +20,5 @@ pub mod SideHolds
 pub mod Sides
 pub mod Stamps
 pub mod Seen
+pub mod Twins
+pub mod EchoFronts

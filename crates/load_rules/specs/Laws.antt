@@ -22,9 +22,9 @@ use Rattle.load_rules.specs.SafeDest.{EchoFits, Fits, IsSafeLoad, IsSafeDest, un
 use Rattle.load_rules.specs.Marks.{IsSeenOf}
 use Rattle.load_rules.specs.Finished.{is_dedup, StreamIsDone, IsFinished, IsIncomplete}
 use Rattle.load_rules.specs.Stores.{CommittedFits, IsStoreRun}
-use Rattle.load_rules.specs.Attempts.{Attempt, attempts, gives, gots, emits}
+use Rattle.load_rules.specs.Attempts.{Attempt, attempts, gots, emits}
 use Rattle.load_rules.specs.Honest.{IsHonestAttempt, IsHonest, AddsHonestly}
-use Rattle.load_rules.specs.Engine.{OpensFirst, IsEngineRun}
+use Rattle.load_rules.specs.Engine.{OpensFirst, TakesGiven, IsEngineRun}
 use Rattle.load_rules.specs.Machine.{Machine, Step, start, run, accepted, CommitsOwnRows, BringsOwnRows, IsDrained, flags, IsTail}
 
 -- The machine
@@ -188,28 +188,44 @@ FinishedIsComplete = (streams : List ConfStream) (read : Reading) (trace : List 
 
 -- Attempts
 
--- Lines through two pipes, whole: what the destination takes was given, and what comes back was emitted, in order.
-abbrev pub PipeFits : List Event → Event → Type 0
-PipeFits before (event.Took text) = IsPrefix (tooks before ++ text ∷ []) (gives before)
-PipeFits before (event.Got text) = IsPrefix (gots before ++ text ∷ []) (emits before)
-PipeFits before event = Unit {0}
+-- A line that comes out of a pipe behind these is the next of those that were written, or a front of it, where the pipe ended within
+-- the line.
+pub record ComesNext (written came : List (List ℕ)) (text : List ℕ) : Type 0 where
+  pub next : List ℕ
+  pub rest : List (List ℕ)
+  pub are : written ≡ came ++ next ∷ rest
+  pub front : IsPrefix text next
 
--- an attempt whose lines go through two pipes, whole; the lines that it takes are fewer than a count can tell
-pub record HasWholeLines (attempt : Attempt) : Type 0 where
-  pub few : length (tooks attempt.events) < 2 ^ 64
-  pub pipes : EachFits PipeFits [] attempt.events
+-- Out of the pipe from the destination come the emitted lines, in order. (Each stands behind whole ones, so only the last may be cut.)
+abbrev pub BackFits : List Event → Event → Type 0
+BackFits before (event.Got text) = ComesNext (emits before) (gots before) text
+BackFits before event = Unit {0}
 
--- whole lines through two pipes to a safe destination make an honest attempt
+-- Lines through two pipes: the messages that the destination takes are the first of those that were given, and what comes back was
+-- emitted.
+abbrev pub PipeFits : Reading → List Event → Event → Type 0
+PipeFits read before (event.Took text) = TakesGiven read before text
+PipeFits read before event = BackFits before event
+
+-- lines through two pipes, perhaps cut where these end, to a safe destination make an honest attempt; the lines that it takes are
+-- fewer than a count can tell
 abbrev pub PipesAreHonest : Type 0
 PipesAreHonest =
     (streams : List ConfStream) (read : Reading) (attempt : Attempt)
-    → IsReading read attempt.events → IsSafeDest streams read attempt.events → EachFits OpensFirst [] attempt.events → HasWholeLines attempt
+    → IsReading read attempt.events → length (tooks attempt.events) < 2 ^ 64
+    → IsSafeDest streams read attempt.events → EachFits OpensFirst [] attempt.events → EachFits (PipeFits read) [] attempt.events
     → IsHonestAttempt streams read attempt
 
--- An attempt of a run of the engine, by itself: a safe destination that opens one load, and does all else behind it.
+-- An attempt of a run of the engine, by itself: a safe destination that opens one load, and does all else behind it; the messages
+-- that it takes were given.
+abbrev pub TakeFits : Reading → List Event → Event → Type 0
+TakeFits read before (event.Took text) = TakesGiven read before text
+TakeFits read before event = Unit {0}
+
 pub record IsSafeAttempt (streams : List ConfStream) (read : Reading) (attempt : Attempt) : Type 0 where
   pub safe : IsSafeDest streams read attempt.events
   pub opens : EachFits OpensFirst [] attempt.events
+  pub takes : EachFits (TakeFits read) [] attempt.events
 
 abbrev pub AttemptsAreSafe : Type 0
 AttemptsAreSafe = (streams : List ConfStream) (read : Reading) (trace : List Event) → IsEngineRun streams read trace → AllByRecursion (IsSafeAttempt streams read) (attempts trace)
@@ -218,11 +234,17 @@ abbrev pub is_started : Event → Bool
 is_started (event.Started plan) = true
 is_started event = false
 
--- The attempts of a run of the engine, with whole lines through two pipes in each, are honest.
+-- what comes back in an attempt was emitted in it; the lines that it takes are fewer than a count can tell
+pub record ComesBack (attempt : Attempt) : Type 0 where
+  pub few : length (tooks attempt.events) < 2 ^ 64
+  pub back : EachFits BackFits [] attempt.events
+
+-- The attempts of a run of the engine are honest, where what comes back in each was emitted, perhaps cut where the pipe ends. (That
+-- what each takes was given is part of the run.)
 abbrev pub RunsAreHonest : Type 0
 RunsAreHonest =
     (streams : List ConfStream) (read : Reading) (trace : List Event)
-    → IsReading read trace → IsEngineRun streams read trace → AllByRecursion HasWholeLines (attempts trace) → IsHonest streams read trace
+    → IsReading read trace → IsEngineRun streams read trace → AllByRecursion ComesBack (attempts trace) → IsHonest streams read trace
 
 -- Where each attempt that the added events begin is honest, and nothing comes back before the first of them, the events add
 -- honestly, whatever was before.

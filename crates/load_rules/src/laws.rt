@@ -76,7 +76,7 @@ pub fn rows_are_own()
     ensures { RowsAreOwn }
 {}
 
-/// Whole lines through two pipes to a safe destination make an honest attempt.
+/// Lines through two pipes to a safe destination, perhaps cut where the pipes end, make an honest attempt.
 pub fn pipes_are_honest()
     ensures { PipesAreHonest }
 {}
