@@ -12,7 +12,7 @@ use Rattle.airbyte_message.specs.Messages.{IsMessage}
 use Rattle.airbyte_message.specs.declared.message.Message.{Message}
 use Rattle.load_rules.specs.Prefixes.{IsPrefix}
 
-some_object : (text : List ℕ) (content : Message) → IsMessage text content → IsSomeObject text
+pub some_object : (text : List ℕ) (content : Message) → IsMessage text content → IsSomeObject text
 some_object text content is = record { deep = is.typed.field.object.deep; members = is.typed.field.members; object = is.typed.field.object.object }
 
 record Ends (text : List ℕ) : Type 0 where

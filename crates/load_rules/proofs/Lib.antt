@@ -22,3 +22,4 @@ pub mod Stamps
 pub mod Seen
 pub mod Twins
 pub mod EchoFronts
+pub mod Piped

@@ -1,5 +1,5 @@
 -- What holds of each load, of each run of the machine, and of the attempts of a trace.
-use Rattle.std.specs.Prelude.{◌≡◌, ℕ, ◌<◌, ◌^◌, List, map, filter, [], ◌∷◌, ◌++◌, length, slice_get, Some, Bool, not, true, false, Contains, ◌↔◌}
+use Rattle.std.specs.Prelude.{◌≡◌, ◌≢◌, ◌⊎◌, ℕ, ◌<◌, ◌^◌, List, map, filter, [], ◌∷◌, ◌++◌, length, slice_get, Some, Bool, not, true, false, Contains, ◌↔◌}
 use Rattle.std.specs.List.{AllByRecursion, take_while}
 use Rattle.basics.specs.declared.stream.StreamId.{StreamId}
 use Rattle.outside.specs.declared.event.Event.{Event}
@@ -8,12 +8,15 @@ use Rattle.outside.specs.declared.event.RawRow.{RawRow}
 use Rattle.catalog.specs.declared.stream.ConfStream.{ConfStream}
 use Rattle.outside.specs.declared.event.StreamPlan.{StreamPlan}
 use Rattle.outside.specs.Dock.{is_opening}
+use Rattle.json_span.specs.Grammar.{Space, space_byte}
 use Rattle.airbyte_message.specs.Lanes.{Lane, LaneCovers}
+use Rattle.airbyte_message.specs.Messages.{IsMessage}
+use Rattle.airbyte_message.specs.declared.message.Message.{Message}
 use Rattle.outside.specs.Tables.{tables_of, table_in}
 use Rattle.raw_tables.specs.Visible.{IsVisible}
 use Rattle.dedup_merge.specs.Merges.{MergesFit, SideStands, merged_at}
 use Rattle.load_rules.specs.Prefixes.{EachFits, IsPrefix}
-use Rattle.load_rules.specs.Lines.{Reading, IsReading}
+use Rattle.load_rules.specs.Lines.{Reading, ReadsText, IsReading}
 use Rattle.load_rules.specs.Taken.{Entry, entries, covers, is_in, of_lane, states}
 use Rattle.load_rules.specs.Loads.{Opening, Load, loads, tooks, held_in}
 use Rattle.load_rules.specs.Rows.{IsRowOf}
@@ -22,7 +25,7 @@ use Rattle.load_rules.specs.SafeDest.{EchoFits, Fits, IsSafeLoad, IsSafeDest, un
 use Rattle.load_rules.specs.Marks.{IsSeenOf}
 use Rattle.load_rules.specs.Finished.{is_dedup, StreamIsDone, IsFinished, IsIncomplete}
 use Rattle.load_rules.specs.Stores.{CommittedFits, IsStoreRun}
-use Rattle.load_rules.specs.Attempts.{Attempt, attempts, gots, emits}
+use Rattle.load_rules.specs.Attempts.{Attempt, attempts, gives, gots, emits}
 use Rattle.load_rules.specs.Honest.{IsHonestAttempt, IsHonest, AddsHonestly}
 use Rattle.load_rules.specs.Engine.{OpensFirst, TakesGiven, IsEngineRun}
 use Rattle.load_rules.specs.Machine.{Machine, Step, start, run, accepted, CommitsOwnRows, BringsOwnRows, IsDrained, flags, IsTail}
@@ -206,6 +209,21 @@ BackFits before event = Unit {0}
 abbrev pub PipeFits : Reading → List Event → Event → Type 0
 PipeFits read before (event.Took text) = TakesGiven read before text
 PipeFits read before event = BackFits before event
+
+-- the line is a message, and its last byte is no white space
+pub record EndsInMessage (line : List ℕ) : Type 0 where
+  pub content : Message
+  pub is : IsMessage line content
+  pub front : List ℕ
+  pub last : ℕ
+  pub spelled : line ≡ front ++ last ∷ []
+  pub ends : (space : Space) → last ≢ space_byte space
+
+-- A line that comes out of the pipe to the destination, and that is whole or cut from a message, is taken as one that was given.
+abbrev pub PipedAreTaken : Type 0
+PipedAreTaken =
+    (read : Reading) (before : List Event) (text : List ℕ)
+    → ReadsText read text → (came : ComesNext (gives before) (tooks before) text) → (text ≡ came.next) ⊎ EndsInMessage came.next → TakesGiven read before text
 
 -- lines through two pipes, perhaps cut where these end, to a safe destination make an honest attempt; the lines that it takes are
 -- fewer than a count can tell

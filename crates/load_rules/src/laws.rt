@@ -1,5 +1,5 @@
 // The laws of loads, each as the contract of a function that does nothing.
-ghost use Rattle.load_rules.specs.Laws.{AttemptsAreSafe, DrainedIsDone, FinishedIsComplete, FrontsAreRuns, FrontsAreSafe, HeldAreUncommitted, HonestAttemptsAdd, LanesCover, NoStateIsLeft, OpeningIsSafe, OrderIsFree, PipesAreHonest, PrefixesFit, RowsAreOwn, RunsAreHonest, RunsAreOrdered, RunsAreSafe, RunsGrow, RunsStaySafe, SafeCommitsFit, SealedInFront, SidesStand, StaysSafe, StoreMergesFit, VisibleIsSeen};
+ghost use Rattle.load_rules.specs.Laws.{AttemptsAreSafe, DrainedIsDone, FinishedIsComplete, FrontsAreRuns, FrontsAreSafe, HeldAreUncommitted, HonestAttemptsAdd, LanesCover, NoStateIsLeft, OpeningIsSafe, OrderIsFree, PipedAreTaken, PipesAreHonest, PrefixesFit, RowsAreOwn, RunsAreHonest, RunsAreOrdered, RunsAreSafe, RunsGrow, RunsStaySafe, SafeCommitsFit, SealedInFront, SidesStand, StaysSafe, StoreMergesFit, VisibleIsSeen};
 
 /// Whatever the machine does, its load is safe.
 pub fn runs_are_safe()
@@ -74,6 +74,11 @@ pub fn sealed_in_front()
 /// Where the sequence of a record is committed, its own row is.
 pub fn rows_are_own()
     ensures { RowsAreOwn }
+{}
+
+/// A line out of the pipe to the destination is taken as one that was given.
+pub fn piped_are_taken()
+    ensures { PipedAreTaken }
 {}
 
 /// Lines through two pipes to a safe destination, perhaps cut where the pipes end, make an honest attempt.
