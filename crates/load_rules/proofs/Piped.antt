@@ -1,45 +1,18 @@
 -- What comes out of the pipe to the destination is taken as it was given.
-use Rattle.std.proofs.Common.{◌≡◌, ◌⊎◌, inl, inr, ℕ, List, [], ◌∷◌, ◌++◌, Option, None, Some, refl, sym, ◌∙◌, ap, subst, arith, append_assoc}
+use Rattle.std.proofs.Common.{◌≡◌, inl, inr, ℕ, List, [], ◌∷◌, ◌++◌, Option, None, Some, refl, sym, ◌∙◌, ap, subst, append_assoc}
 use Rattle.std.specs.Prelude.{filter_map}
 use Rattle.std.proofs.lemmas.List.{append-nil}
 use Rattle.std.proofs.lemmas.List.Elements.{filter_map-append}
 use Rattle.json_fields.specs.Answer.{IsAnswer}
-use Rattle.json_span.specs.Members.{IsSomeObject}
-use Rattle.json_span.proofs.Theorems.{none_in_front}
 use Rattle.outside.specs.declared.event.Event.{Event}
 use Rattle.airbyte_message.specs.Messages.{IsMessage}
 use Rattle.airbyte_message.specs.declared.message.Message.{Message}
-use Rattle.load_rules.specs.Prefixes.{IsPrefix}
-use Rattle.load_rules.specs.Lines.{Reading, ReadsText}
+use Rattle.load_rules.specs.Lines.{Reading}
 use Rattle.load_rules.specs.Loads.{tooks}
 use Rattle.load_rules.specs.Attempts.{gives}
 use Rattle.load_rules.specs.Engine.{TakesGiven}
-use Rattle.load_rules.specs.Laws.{ComesNext, EndsInMessage, PipedAreTaken}
-use Rattle.load_rules.proofs.EchoFronts.{some_object}
-
--- what stands behind a front of a text ends as the text does
-record EndsAs (last : ℕ) (text : List ℕ) : Type 0 where
-  init : List ℕ
-  is : text ≡ init ++ last ∷ []
-
-rest_ends : (last : ℕ) (front : List ℕ) (first : ℕ) (rest init : List ℕ) → front ++ first ∷ rest ≡ init ++ last ∷ [] → EndsAs last (first ∷ rest)
-rest_ends last [] first rest init is = record { init = init; is = is }
-rest_ends last (x ∷ front) first rest [] is = absurd (none front (grind (arith, is)))
-  where
-    none : (front : List ℕ) → front ++ first ∷ rest ≡ [] → ⊥
-    none [] e = grind (arith, e)
-    none (y ∷ front) e = grind (arith, e)
-rest_ends last (x ∷ front) first rest (y ∷ init) is = rest_ends last front first rest init (grind (arith, is))
-
--- a front of a message is that message, or none
-front_reads : (text line : List ℕ) (content : Message) → EndsInMessage line → IsPrefix text line → IsMessage text content → text ≡ line
-front_reads text line content ends prefix is = at prefix.0 prefix.1
-  where
-    at : (rest : List ℕ) → line ≡ text ++ rest → text ≡ line
-    at [] e = sym (e ∙ append-nil text)
-    at (first ∷ rest) e =
-        let tail = rest_ends ends.last text first rest ends.front (sym e ∙ ends.spelled) in
-        absurd (none_in_front text tail.init ends.last (subst IsSomeObject (e ∙ ap (λ more. text ++ more) tail.is) (some_object line ends.content ends.is)) ends.ends (some_object text content is))
+use Rattle.load_rules.specs.Laws.{PipedAreTaken}
+use Rattle.load_rules.proofs.EchoFronts.{front_reads}
 
 whole_taken : (read : Reading) (before : List Event) (text : List ℕ) (rest : List (List ℕ)) → gives before ≡ tooks before ++ text ∷ rest → TakesGiven read before text
 whole_taken read before text rest are = (filter_map read rest, ap (filter_map read) (are ∙ sym (append_assoc (tooks before) (text ∷ []) rest)) ∙ filter_map-append read (tooks before ++ text ∷ []) rest)
