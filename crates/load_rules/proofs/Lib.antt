@@ -23,3 +23,4 @@ pub mod Seen
 pub mod Twins
 pub mod EchoFronts
 pub mod Piped
+pub mod Worked

@@ -1,4 +1,5 @@
 // The laws of loads, each as the contract of a function that does nothing.
+ghost use Rattle.load_rules.specs.Examples.{RunsAsWorked, StoresAsWorked};
 ghost use Rattle.load_rules.specs.Laws.{AttemptsAreSafe, DrainedIsDone, FinishedIsComplete, FrontsAreRuns, FrontsAreSafe, HeldAreUncommitted, HonestAttemptsAdd, LanesCover, NoStateIsLeft, OpeningIsSafe, OrderIsFree, PipedAreTaken, PipesAreHonest, PrefixesFit, RowsAreOwn, RunsAreHonest, RunsAreOrdered, RunsAreSafe, RunsGrow, RunsStaySafe, SafeCommitsFit, SealedInFront, SidesStand, StaysSafe, StoreMergesFit, VisibleIsSeen};
 
 /// Whatever the machine does, its load is safe.
@@ -129,4 +130,14 @@ pub fn runs_are_honest()
 /// Honest attempts add honestly, whatever was before.
 pub fn honest_attempts_add()
     ensures { HonestAttemptsAdd }
+{}
+
+/// Runs of the machine that were worked by hand.
+pub fn runs_as_worked()
+    ensures { RunsAsWorked }
+{}
+
+/// Traces of a store that were worked by hand.
+pub fn stores_as_worked()
+    ensures { StoresAsWorked }
 {}
