@@ -13,9 +13,15 @@ use Rattle.airbyte_message.specs.declared.message.StateKind.TheVariants as kind
 use Rattle.catalog.specs.declared.stream.ConfStream.{ConfStream}
 use Rattle.catalog.specs.declared.modes.DestMode.TheVariants.{Append}
 use Rattle.catalog.specs.declared.modes.SyncMode.TheVariants.{Incremental}
-use Rattle.load_rules.specs.Lines.{Line}
+use Rattle.airbyte_message.specs.Lanes.{one}
+use Rattle.airbyte_message.specs.declared.message.TraceMsg.TheVariants as trace
+use Rattle.airbyte_message.specs.declared.stream_status.StreamStatus.{StreamStatus}
+use Rattle.airbyte_message.specs.declared.stream_status.StreamStatus.TheVariants.{Running, Complete}
+use Rattle.load_rules.specs.Lines.{Line, Reading}
 use Rattle.load_rules.specs.Taken.{LaneState, count_of}
-use Rattle.load_rules.specs.Acts.{state_echoed}
+use Rattle.load_rules.specs.Acts.{Act, Takes, Commits, Echoes, state_echoed}
+use Rattle.load_rules.specs.SafeDest.{EchoFits}
+use Rattle.load_rules.specs.Finished.{IsFinished, IsIncomplete}
 use Rattle.load_rules.specs.Machine.{Step, Accept, Seal, HandOut, Commit, TakeBack, Release, start, run}
 use Rattle.load_rules.specs.Marks.{marks_of}
 use Rattle.load_rules.specs.Stores.{IsStoreRun}
@@ -87,10 +93,48 @@ pub record RunsAsWorked : Type 0 where
   pub waits_for_both : echoes_behind one_of_two ≡ []
   pub covers_both : echoes_behind (one_of_two ++ Commit 1 b 1 (rows_at (1 ∷ [])) ∷ Release ∷ []) ≡ echo 1 2 ∷ []
 
--- Loads 1 and 2 of `a`, each with sequence 0
+-- A record of `a`, and two states of it
+abbrev pub state_behind : ℕ → List Line → LaneState
+state_behind number before = record { lane = one a; state = record { object = number ∷ []; kind = kind.Stream a None; source_count = None }; before = before }
+
+abbrev pub first_state : LaneState
+first_state = state_behind 1 (record_of a ∷ [])
+
+abbrev pub second_state : LaneState
+second_state = state_behind 2 (record_of a ∷ state_of_a 1 ∷ [])
+
+abbrev pub three_taken : List Act
+three_taken = Takes (record_of a) ∷ Takes (state_of_a 1) ∷ Takes (state_of_a 2) ∷ []
+
+abbrev pub then_committed : List Act
+then_committed = three_taken ++ Commits 0 (rows_at (0 ∷ [])) ∷ []
+
+pub record EchoesAsWorked : Type 0 where
+  pub behind_its_records : EchoFits then_committed first_state
+  pub early : ¬ EchoFits three_taken first_state
+  pub skipped : ¬ EchoFits then_committed second_state
+  pub twice : ¬ EchoFits (then_committed ++ Echoes first_state ∷ []) first_state
+  pub then_next : EchoFits (then_committed ++ Echoes first_state ∷ []) second_state
+
 abbrev pub plan_of_a : ℕ → ℕ → Bool → StreamPlan
 plan_of_a generation minimum hidden = record { id = a; dedup = false; generation = generation; minimum = minimum; hidden = hidden }
 
+-- A load that takes one line and ends, where that line tells a status of `a`
+abbrev pub tells : StreamStatus → Reading
+tells status = λ text. Some (message.Trace (trace.Status a status None))
+
+abbrev pub one_status : List Event
+one_status = event.Opened 1 1 (plan_of_a 0 0 false ∷ []) ∷ event.Took [] ∷ event.TookEnd ∷ []
+
+pub record EndsAsWorked : Type 0 where
+  pub complete : IsFinished (configured a ∷ []) (tells Complete) one_status
+  pub running : IsIncomplete (configured a ∷ []) (tells Running) one_status 0
+  -- `a` is complete, and of `b` nothing was told
+  pub second : IsIncomplete both_streams (tells Complete) one_status 1
+  pub not_first : ¬ IsIncomplete both_streams (tells Complete) one_status 0
+  pub no_end : ¬ IsFinished (configured a ∷ []) (tells Complete) (event.Opened 1 1 (plan_of_a 0 0 false ∷ []) ∷ event.Took [] ∷ [])
+
+-- Loads 1 and 2 of `a`, each with sequence 0
 abbrev pub two_loads : List Event
 two_loads =
     event.Opened 1 1 (plan_of_a 0 0 false ∷ []) ∷ event.Committed 0 (row_at 1 0 0 ∷ [])
@@ -115,6 +159,9 @@ pub record StoresAsWorked : Type 0 where
   -- each load numbers its records from 0; within one load a sequence stands once
   pub two_loads_fit : IsStoreRun two_loads
   pub twice_in_one : ¬ IsStoreRun (two_loads ++ event.Committed 0 (row_at 2 0 0 ∷ []) ∷ [])
+  pub twice_in_commit : ¬ IsStoreRun (event.Opened 1 1 (plan_of_a 0 0 false ∷ []) ∷ event.Committed 0 (row_at 1 0 0 ∷ row_at 1 0 0 ∷ []) ∷ [])
+  pub load_again : ¬ IsStoreRun (two_loads ++ event.Opened 2 1 (plan_of_a 0 0 false ∷ []) ∷ [])
+  pub stream_twice : ¬ IsStoreRun (event.Opened 1 1 (plan_of_a 0 0 false ∷ plan_of_a 0 0 false ∷ []) ∷ [])
   pub row_of_other_load : ¬ IsStoreRun (two_loads ++ event.Committed 0 (row_at 1 0 1 ∷ []) ∷ [])
   -- old rows are seen until the hidden ones are shown, and then are gone
   pub hidden_fits : IsStoreRun then_shown

@@ -1,5 +1,5 @@
 // The laws of loads, each as the contract of a function that does nothing.
-ghost use Rattle.load_rules.specs.Examples.{RunsAsWorked, StoresAsWorked};
+ghost use Rattle.load_rules.specs.Examples.{EchoesAsWorked, EndsAsWorked, RunsAsWorked, StoresAsWorked};
 ghost use Rattle.load_rules.specs.Laws.{AttemptsAreSafe, DrainedIsDone, FinishedIsComplete, FrontsAreRuns, FrontsAreSafe, HeldAreUncommitted, HonestAttemptsAdd, LanesCover, NoStateIsLeft, OpeningIsSafe, OrderIsFree, PipedAreTaken, PipesAreHonest, PrefixesFit, RowsAreOwn, RunsAreHonest, RunsAreOrdered, RunsAreSafe, RunsGrow, RunsStaySafe, SafeCommitsFit, SealedInFront, SidesStand, StaysSafe, StoreMergesFit, VisibleIsSeen};
 
 /// Whatever the machine does, its load is safe.
@@ -140,4 +140,14 @@ pub fn runs_as_worked()
 /// Traces of a store that were worked by hand.
 pub fn stores_as_worked()
     ensures { StoresAsWorked }
+{}
+
+/// Echoes that were worked by hand.
+pub fn echoes_as_worked()
+    ensures { EchoesAsWorked }
+{}
+
+/// Ends of loads that were worked by hand.
+pub fn ends_as_worked()
+    ensures { EndsAsWorked }
 {}
