@@ -22,7 +22,8 @@ pub runs_as_worked : RunsAsWorked
 runs_as_worked = record {
   waits_for_first = refl;
   in_order = refl;
-  other_rows = refl;
+  out_of_order = refl;
+  one_more = refl;
   taken_back = refl;
   other_number = refl;
   waits_for_both = refl;
@@ -44,6 +45,7 @@ stores_as_worked = record {
   shown_twice = λ run. (let fits = each_at StoreFits [] then_shown [] (event.Shown 0 2 2) run in not_hidden (plan_of_a 2 2 false) fits.plan refl fits.planned fits.hidden);
   shown_unhidden = λ run. (let fits = each_at StoreFits [] two_loads [] (event.Shown 0 0 0) run in not_hidden (plan_of_a 0 0 false) fits.plan refl fits.planned fits.hidden);
   unhidden_above = λ run. false≢true run.0.hidden.0;
+  at_the_floor = (record { later = omega arith; own = (tt, tt); hidden = (refl, tt) }, (record { own = (refl, tt); new = (refl, tt) }, (record { later = omega arith; own = (tt, tt); hidden = (refl, tt) }, (record { own = (refl, tt); new = (refl, tt) }, (record { later = omega arith; own = (tt, tt); hidden = (refl, tt) }, (record { own = (refl, tt); new = (refl, tt) }, (record { plan = plan_of_a 2 2 true; planned = refl; hidden = refl }, (record { later = omega arith; own = (tt, tt); hidden = (refl, tt) }, tt))))))));
   hidden_below = λ run. false≢true (sym run.0.hidden.0);
 }
   where

@@ -85,8 +85,9 @@ pub record RunsAsWorked : Type 0 where
   -- nothing is emitted behind the second batch alone; behind both the two states in their order, each with its own count
   pub waits_for_first : echoes_behind second_first ≡ []
   pub in_order : echoes_behind (second_first ++ Commit 0 a 0 (rows_at (0 ∷ 1 ∷ [])) ∷ Release ∷ Release ∷ Release ∷ []) ≡ echo 1 2 ∷ echo 2 1 ∷ []
-  -- rows with other sequences, a batch that is not out, and a number of another stream commit nothing
-  pub other_rows : echoes_behind (second_first ++ Commit 0 a 0 (rows_at (0 ∷ 2 ∷ [])) ∷ Release ∷ []) ≡ []
+  -- rows out of order, one row more, a batch that is not out, and a number of another stream commit nothing
+  pub out_of_order : echoes_behind (second_first ++ Commit 0 a 0 (rows_at (1 ∷ 0 ∷ [])) ∷ Release ∷ []) ≡ []
+  pub one_more : echoes_behind (second_first ++ Commit 0 a 0 (rows_at (0 ∷ 1 ∷ 3 ∷ [])) ∷ Release ∷ []) ≡ []
   pub taken_back : echoes_behind (second_first ++ TakeBack a 0 ∷ Commit 0 a 0 (rows_at (0 ∷ 1 ∷ [])) ∷ Release ∷ []) ≡ []
   pub other_number : echoes_behind (second_first ++ Commit 1 a 0 (rows_at (0 ∷ 1 ∷ [])) ∷ Release ∷ []) ≡ []
   -- a state of all streams waits for both
@@ -173,4 +174,5 @@ pub record StoresAsWorked : Type 0 where
   pub shown_unhidden : ¬ IsStoreRun (two_loads ++ event.Shown 0 0 0 ∷ [])
   -- a minimum above the floor is hidden, and no other
   pub unhidden_above : ¬ IsStoreRun (event.Opened 1 1 (plan_of_a 1 1 false ∷ []) ∷ [])
+  pub at_the_floor : IsStoreRun (then_shown ++ event.Opened 4 1 (plan_of_a 3 2 false ∷ []) ∷ [])
   pub hidden_below : ¬ IsStoreRun (event.Opened 1 1 (plan_of_a 1 0 true ∷ []) ∷ [])
