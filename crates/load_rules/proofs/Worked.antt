@@ -26,6 +26,7 @@ runs_as_worked = record {
   one_more = refl;
   taken_back = refl;
   other_number = refl;
+  once = refl;
   waits_for_both = refl;
   covers_both = refl;
 }

@@ -19,7 +19,7 @@ use Rattle.airbyte_message.specs.declared.stream_status.StreamStatus.{StreamStat
 use Rattle.airbyte_message.specs.declared.stream_status.StreamStatus.TheVariants.{Running, Complete}
 use Rattle.load_rules.specs.Lines.{Line, Reading}
 use Rattle.load_rules.specs.Taken.{LaneState, count_of}
-use Rattle.load_rules.specs.Acts.{Act, Takes, Commits, Echoes, state_echoed}
+use Rattle.load_rules.specs.Acts.{Act, Takes, Commits, Echoes, committed, state_echoed}
 use Rattle.load_rules.specs.SafeDest.{EchoFits}
 use Rattle.load_rules.specs.Finished.{IsFinished, IsIncomplete}
 use Rattle.load_rules.specs.Machine.{Step, Accept, Seal, HandOut, Commit, TakeBack, Release, start, run}
@@ -90,6 +90,8 @@ pub record RunsAsWorked : Type 0 where
   pub one_more : echoes_behind (second_first ++ Commit 0 a 0 (rows_at (0 ∷ 1 ∷ 3 ∷ [])) ∷ Release ∷ []) ≡ []
   pub taken_back : echoes_behind (second_first ++ TakeBack a 0 ∷ Commit 0 a 0 (rows_at (0 ∷ 1 ∷ [])) ∷ Release ∷ []) ≡ []
   pub other_number : echoes_behind (second_first ++ Commit 1 a 0 (rows_at (0 ∷ 1 ∷ [])) ∷ Release ∷ []) ≡ []
+  -- a batch that is committed is out no more
+  pub once : committed (run both_streams (second_first ++ Commit 0 a 1 (rows_at (2 ∷ [])) ∷ []) start).acts ≡ 2 ∷ []
   -- a state of all streams waits for both
   pub waits_for_both : echoes_behind one_of_two ≡ []
   pub covers_both : echoes_behind (one_of_two ++ Commit 1 b 1 (rows_at (1 ∷ [])) ∷ Release ∷ []) ≡ echo 1 2 ∷ []
