@@ -1,4 +1,4 @@
--- Whole lines through two pipes to a safe destination make an honest attempt.
+-- Lines through two pipes to a safe destination, perhaps cut where these end, make an honest attempt.
 use Rattle.std.proofs.Common.{arith, ◌≡◌, ◌⊎◌, inl, inr, ℕ, ◌+◌, ◌<◌, ◌≤◌, ◌^◌, List, [], ◌∷◌, ◌++◌, map, length, Option, None, Some, Bool, true, false, cond, refl, sym, ◌∙◌, ap, subst, append_assoc, length-append}
 use Rattle.std.specs.Prelude.{filter, filter_map, Contains}
 use Rattle.std.specs.List.{AllByRecursion}
