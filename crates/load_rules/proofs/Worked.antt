@@ -129,5 +129,6 @@ ends_as_worked = record {
   running = record { load = own_load; done = done Running; each = λ other stream at is. only_first (StreamIsDone (tables_of one_status)) stream_done other stream at; stream = configured a; configured = refl; incomplete = is_running; before = λ other stream low at. absurd (omega (arith, low)) };
   second = record { load = own_load; done = done Complete; each = second_done; stream = configured b; configured = refl; incomplete = none_some; before = first_complete };
   not_first = λ open_one. (let same = same_load own_load open_one.load [] open_one.done.older open_one.done.last in open_one.incomplete (subst (λ (load : Load). IsComplete (tells Complete) load open_one.stream) same (subst (λ (it : ConfStream). IsComplete (tells Complete) own_load it) (some_is open_one.configured) a_complete)));
+  not_second = λ open_one. (let same = same_load own_load open_one.load [] open_one.done.older open_one.done.last in is_running (subst (λ (load : Load). IsComplete (tells Running) load (configured a)) (sym same) (open_one.before 0 (configured a) (omega arith) refl)));
   no_end = λ finished. (let same = same_load (record { opening = record { load = 1; moment = 1; plan = plan_of_a 0 0 false ∷ [] }; events = event.Took [] ∷ [] }) finished.load [] finished.done.older finished.done.last in no_end_taken (subst (λ (load : Load). Contains load.events event.TookEnd) (sym same) finished.done.ended));
 }

@@ -135,6 +135,8 @@ pub record EndsAsWorked : Type 0 where
   -- `a` is complete, and of `b` nothing was told
   pub second : IsIncomplete both_streams (tells Complete) one_status 1
   pub not_first : ¬ IsIncomplete both_streams (tells Complete) one_status 0
+  -- where neither is complete the first is named
+  pub not_second : ¬ IsIncomplete both_streams (tells Running) one_status 1
   pub no_end : ¬ IsFinished (configured a ∷ []) (tells Complete) (event.Opened 1 1 (plan_of_a 0 0 false ∷ []) ∷ event.Took [] ∷ [])
 
 -- Loads 1 and 2 of `a`, each with sequence 0
