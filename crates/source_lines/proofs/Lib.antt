@@ -4,3 +4,5 @@ mod HeadLemmas
 mod LineLemmas
 mod GivingLemmas
 mod BeginLemmas
+mod RoundLemmas
+mod FeedLemmas
