@@ -1,10 +1,10 @@
 -- A feed over a source, as contracts see it.
-use Rattle.std.proofs.Common.{inl, inr, ◌⊎◌, ◌≡◌, ◌≢◌, ◌∙◌, ℕ, List, Result, Ok, Err, IfErr, IsErrAnd, Bool, Option, None, Some, option_map, is_some, refl, sym, ap, subst}
+use Rattle.std.proofs.Common.{inl, inr, ◌⊎◌, ◌≡◌, ◌≢◌, ◌∙◌, ℕ, List, [], Result, Ok, Err, IfErr, IsErrAnd, Bool, Option, None, Some, option_map, is_some, refl, sym, ap, subst}
 use Rattle.basics.specs.Told.{RoseIf}
 use Rattle.outside.specs.Feed.{FeedSeen, Left, ended_with, nothing_left}
 use Rattle.outside.specs.declared.status.Status.{Status}
 use Rattle.outside.specs.declared.status.Status.TheVariants as status
-use Rattle.source_lines.specs.Sources.{Openings, Round, SourceSeen, is_over, round_left}
+use Rattle.source_lines.specs.Sources.{Openings, Round, SourceSeen, is_over, left_from, round_left}
 use Rattle.source_lines.specs.SourceFeeds.{feed_seen}
 use Rattle.source_lines.specs.declared.feed.Progress.{Progress}
 use Rattle.source_lines.specs.declared.feed.Progress.TheVariants as progress
@@ -59,3 +59,11 @@ pub not_ready : {A : Type 0} (answer : Result A Status) (why : Status) (P : Stat
     → IfErr answer (λ e. e ≢ status.NoMemory → e ≢ status.RowFault → P e)
 not_ready (Ok found) why P is cause = absurd is
 not_ready (Err e) why P is cause = λ memory fault. elim cause [ inl none ↦ absurd (memory (is ∙ none)) | inr lost ↦ absurd (fault (is ∙ lost)) ]
+
+-- what is left of a round before its first stream
+pub begins_lines : {Start : Type 0} (moment : ℕ) (old new : SourceSeen Start) (round : Round Start) → new ≡ record old { faults = new.faults } → round.lines ≡ [] → round.next ≡ 0
+    → option_map (round_left moment round) new.openings ≡ option_map (left_from moment round.streams round.starts) old.openings
+begins_lines {Start} moment old new round others none first =
+    ap (λ (s : SourceSeen Start). option_map (round_left moment round) s.openings) others
+    ∙ ap (λ (lines : List (List ℕ)). option_map (round_left moment (record round { lines = lines })) old.openings) none
+    ∙ ap (λ (next : ℕ). option_map (round_left moment (record { lines = []; next = next; streams = round.streams; starts = round.starts })) old.openings) first

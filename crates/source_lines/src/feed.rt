@@ -10,6 +10,7 @@ use crate::{ListedRows, StreamSource, begin_checks};
 use basics::Bytes;
 use outside::{Exit, Feed, Status};
 use std::alloc::Global;
+use std::marker::Model;
 
 // How far a feed is.
 #[derive(Drop)]
@@ -27,9 +28,23 @@ pub struct SourceFeed<S: StreamSource + Drop> {
     progress: Progress<S::Start, S::Rows>,
 }
 
+impl<S: StreamSource + Drop> Model for SourceFeed<S> {
+    ghost use Rattle.source_lines.specs.SourceFeeds.{SourceFeedSeen, feed_seen};
+
+    ghost Value = { SourceFeedSeen S };
+
+    ghost view = { λ feed. record { source = feed.source; moment = feed.moment; feed = feed_seen feed.moment (S.seen feed.source) feed.progress } };
+}
+
 impl<S: StreamSource + Drop> SourceFeed<S> {
+    ghost use Rattle.std.specs.Prelude.{◌≡◌};
+    ghost use Rattle.outside.specs.declared.status.Status.TheVariants as status;
+    ghost use Rattle.source_lines.specs.Sources.{is_over};
+
     /// A feed over this source, whose lines were read at this moment, in milliseconds since 1970.
-    pub fn new(source: S, now_ms: u64) -> Self {
+    pub fn new(source: S, now_ms: u64) -> Self
+        ensures { result ≡ record { source = source; moment = now_ms; feed = is_over (S.seen source) status.Ok } }
+    {
         SourceFeed {
             source,
             moment: now_ms,
@@ -59,11 +74,27 @@ fn begun<S: StreamSource>(
 }
 
 impl<S: StreamSource + Drop> Feed for SourceFeed<S> {
-    ghost use Rattle.source_lines.specs.SourceFeeds.{feed_seen};
+    ghost use Rattle.std.specs.Prelude.{◌≡◌, ◌≢◌, None, Ok, Err, IfErr, OnOk, is_some};
+    ghost use Rattle.basics.specs.Told.{RoseIf};
+    ghost use Rattle.json_fields.specs.Answer.{IsOnly};
+    ghost use Rattle.outside.specs.Feed.{ended_with};
+    ghost use Rattle.outside.specs.declared.status.Status.TheVariants as status;
+    ghost use Rattle.source_lines.specs.Begins.{BeginsAs};
+    ghost use Rattle.source_lines.specs.SourceFeeds.{BeginsWith};
 
-    ghost seen = { λ feed. feed_seen feed.moment (S.seen feed.source) feed.progress };
+    ghost seen = { λ feed. feed.feed };
 
-    fn begin(&mut self, alloc: Global, catalog: &[u8], states: &[u8]) -> Result<(), Status> {
+    fn begin(&mut self, alloc: Global, catalog: &[u8], states: &[u8]) -> Result<(), Status>
+        ensures ok { OnOk result (self.new.feed.ended ≡ None) }
+        ensures refused { IfErr result (λ why. self.new.feed ≡ record (ended_with why self.old.feed) { faults = self.new.feed.faults }) }
+        ensures no_refusal { ¬ (result ≡ Err status.Ok) }
+        ensures told { is_some self.new.feed.left ≡ is_some self.old.feed.left }
+        ensures faults { RoseIf (result ≡ Err status.RowFault) self.old.feed.faults self.new.feed.faults }
+        ensures stays { ¬ (result ≡ Err status.RowFault) → self.new.feed.faults ≡ self.old.feed.faults }
+        ensures begins { OnOk result (BeginsWith S.Starts (S.seen self.old.source) catalog.now states.now self.old.moment self.new.feed.left) }
+        ensures by_texts { IfErr result (λ why. why ≢ status.NoMemory → why ≢ status.RowFault → IsOnly (BeginsAs S.Starts (S.seen self.old.source).is_known catalog.now states.now) (Err why)) }
+        ensures moment { self.new.moment ≡ self.old.moment }
+    {
         self.progress = Progress::Ended(Status::Ok);
         match begun(alloc, &mut self.source, catalog, states) {
             Ok(round) => {
