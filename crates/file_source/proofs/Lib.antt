@@ -1,2 +1,3 @@
 mod ResumeLemmas
 mod BlobLemmas
+pub mod SheetLemmas
