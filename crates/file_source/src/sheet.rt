@@ -1,13 +1,15 @@
 // Reading a text of CSV.
-ghost use Rattle.std.specs.Prelude.{◌≡◌, ◌&&◌, ◌∷◌, ◌<◌, List, length, nat_eq, map, IfOk};
+ghost use Rattle.std.specs.Prelude.{◌≡◌, ◌&&◌, ◌∷◌, ◌<◌, ℕ, List, length, nat_eq, map, Ok, Err, IfOk, IfErr};
 ghost use Rattle.std.specs.Str.{is_utf8};
 ghost use Rattle.csv.specs.Reading.{default_config, records, strip_bom};
 ghost use Rattle.csv.specs.Records.{fields_of};
-ghost use Rattle.file_source.specs.Sheet.{Fields, are_texts as are_all_texts, first_misfit};
+ghost use Rattle.file_source.specs.Sheet.{Fields, are_texts as are_all_texts, first_misfit, sheet_in};
+ghost use Rattle.file_source.specs.declared.sheet.SheetFault.TheVariants as fault;
 
 use basics::NoMemory;
 use csv::{ByteRecord, ReaderBuilder};
 use std::alloc::Global;
+use std::marker::Model;
 use std::str;
 
 // All records of a text, of whatever number of fields. Nothing but memory can be wanting.
@@ -69,4 +71,50 @@ fn misfit(rows: &[ByteRecord]) -> Option<u64>
         }
     }
     None
+}
+
+/// The records of a file, and the names of their columns. Every field is text.
+#[derive(Drop)]
+pub struct Sheet {
+    // The header, and the records under it; nothing where the text has none.
+    rows: Vec<ByteRecord>,
+}
+
+impl Model for Sheet {
+    ghost use Rattle.std.specs.Prelude.{map};
+    ghost use Rattle.csv.specs.Records.{fields_of};
+    ghost use Rattle.file_source.specs.Sheet.{Sheet as SheetSeen, sheet_under};
+
+    ghost Value = { SheetSeen };
+
+    ghost view = { λ sheet. sheet_under (map fields_of sheet.rows.items) };
+}
+
+/// Why a text is no sheet.
+#[derive(Clone, Copy, Debug, PartialEq, Eq)]
+pub enum SheetFault {
+    /// The record with this number, from 1, does not fit; 0 is the header.
+    Misfit(u64),
+    NoMemory,
+}
+
+/// Reads a file's whole text.
+pub fn read_sheet(alloc: Global, text: &[u8]) -> Result<Sheet, SheetFault>
+    ensures read { IfOk result (λ sheet. sheet_in text.now ≡ Ok sheet) }
+    ensures refused { IfErr result (λ why. (row : ℕ) → why ≡ fault.Misfit row → sheet_in text.now ≡ Err row) }
+{
+    let rows = match read_records(alloc, text) {
+        Ok(rows) => rows,
+        Err(NoMemory) => return Err(SheetFault::NoMemory),
+    };
+    if rows.is_empty() {
+        return Ok(Sheet { rows });
+    }
+    if !are_texts(&rows[0]) {
+        return Err(SheetFault::Misfit(0));
+    }
+    match misfit(&rows) {
+        Some(number) => Err(SheetFault::Misfit(number)),
+        None => Ok(Sheet { rows }),
+    }
 }
