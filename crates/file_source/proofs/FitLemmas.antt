@@ -1,5 +1,5 @@
 -- Whether records fit their header, one by one.
-use Rattle.std.proofs.Common.{◌≡◌, ◌∙◌, ◌&&◌, ℕ, zero, suc, ◌+◌, ◌<◌, List, [], ◌∷◌, length, drop, map, Bool, true, false, cond, Option, None, Some, Result, Ok, Err, MatchResult, is_some, nat_eq, get_or, IsUtf8, option_map, refl, sym, ap, subst, arith}
+use Rattle.std.proofs.Common.{◌≡◌, ◌∙◌, ◌&&◌, ℕ, zero, suc, ◌+◌, ◌<◌, List, [], ◌∷◌, length, drop, map, Bool, true, false, cond, None, Some, Result, Ok, Err, MatchResult, nat_eq, get_or, IsUtf8, refl, sym, ap, arith}
 use Rattle.std.specs.Result.{is_ok}
 use Rattle.std.specs.Str.{is_utf8}
 use Rattle.std.proofs.lemmas.Str.{IsUtf8-from_is_utf8, is_utf8-from_IsUtf8}

@@ -1,4 +1,4 @@
-use Rattle.std.proofs.Common.{◌≡◌, ◌∙◌, ◌<◌, arith, length, true, false, sym}
+use Rattle.std.proofs.Common.{◌∙◌, arith, true, false, sym}
 use Rattle.csv.specs.Records.{fields_of}
 use Rattle.file_source.proofs.FitLemmas.{field_there, texts_at}
 use Rattle.file_source.proofs.sheet.are_texts.Goals as goal

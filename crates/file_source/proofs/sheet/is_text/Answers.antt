@@ -1,4 +1,4 @@
-use Rattle.std.proofs.Common.{◌≡◌, ◌∙◌, ℕ}
+use Rattle.std.proofs.Common.{◌∙◌}
 use Rattle.file_source.proofs.FitLemmas.{text_is}
 use Rattle.file_source.proofs.sheet.is_text.Goals as goal
 

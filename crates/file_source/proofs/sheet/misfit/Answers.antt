@@ -1,5 +1,4 @@
-use Rattle.std.proofs.Common.{◌≡◌, ◌∙◌, ◌<◌, arith, length, true, false, sym}
-use Rattle.csv.specs.Records.{fields_of}
+use Rattle.std.proofs.Common.{◌∙◌, true, false, sym}
 use Rattle.file_source.proofs.FitLemmas.{count_is, misfit_at}
 use Rattle.file_source.proofs.sheet.misfit.Goals as goal
 
