@@ -1,7 +1,7 @@
 -- A feed over a source, as contracts see it.
 use Rattle.std.proofs.Common.{inl, inr, ◌⊎◌, ◌≡◌, ◌≢◌, ◌∙◌, ℕ, List, [], Result, Ok, Err, IfErr, IsErrAnd, Bool, Option, None, Some, option_map, is_some, refl, sym, ap, subst}
 use Rattle.basics.specs.Told.{RoseIf}
-use Rattle.outside.specs.Feed.{FeedSeen, Left, ended_with, nothing_left}
+use Rattle.outside.specs.Feed.{Left, ended_with, nothing_left}
 use Rattle.outside.specs.declared.status.Status.{Status}
 use Rattle.outside.specs.declared.status.Status.TheVariants as status
 use Rattle.source_lines.specs.Sources.{Openings, Round, SourceSeen, is_over, left_from, round_left}

@@ -1,12 +1,12 @@
 -- What is left of a round, stream by stream.
-use Rattle.std.proofs.Common.{inl, inr, ◌⊎◌, ◌≡◌, ◌≢◌, ◌∙◌, ℕ, ◌+◌, List, [], ◌∷◌, ◌++◌, drop, slice_get, Option, None, Some, IfSome, option_map, Result, Ok, Err, IsErrAnd, IfErr, IfOk, OnErr, refl, sym, ap, subst}
+use Rattle.std.proofs.Common.{inl, inr, ◌≡◌, ◌∙◌, ℕ, ◌+◌, List, [], ◌∷◌, ◌++◌, drop, slice_get, Option, None, Some, IfSome, option_map, Result, Ok, Err, IsErrAnd, IfErr, IfOk, OnErr, refl, sym, ap, subst}
 use Rattle.outside.specs.declared.status.Status.{Status}
 use Rattle.outside.specs.declared.status.Status.TheVariants as status
-use Rattle.outside.specs.Feed.{FeedSeen, Left, before_line, behind_line, nothing_left, IsOver, WantsMemory}
+use Rattle.outside.specs.Feed.{FeedSeen, Left, before_line, behind_line, nothing_left}
 use Rattle.catalog.specs.declared.stream.ConfStream.{ConfStream}
 use Rattle.source_lines.specs.Streams.{left_of}
 use Rattle.source_lines.specs.Turns.{GivesLine}
-use Rattle.source_lines.specs.Sources.{GoesOn, Listed, Openings, Opens, OpensNot, OpensNotNext, Round, SourceSeen, goes_on, lines_from, lines_of, listed_lines, opening_of, round_left}
+use Rattle.source_lines.specs.Sources.{GoesOn, Listed, Openings, Opens, OpensNotNext, Round, SourceSeen, goes_on, lines_from, lines_of, listed_lines, round_left}
 use Rattle.source_lines.proofs.BeginLemmas.{left_with}
 
 -- a round whose stream has no line left is as it was

@@ -6,7 +6,7 @@ use Rattle.outside.specs.declared.status.Status.TheVariants as status
 use Rattle.outside.specs.Feed.{FeedSeen, IsOver, Left, before_line, nothing_left}
 use Rattle.catalog.specs.declared.stream.ConfStream.{ConfStream}
 use Rattle.source_lines.specs.Checkpoints.{Row}
-use Rattle.source_lines.specs.Streams.{Form, left_of, stream_lines}
+use Rattle.source_lines.specs.Streams.{left_of, stream_lines}
 
 -- the rows of a stream that are to come, the blob that it starts with, and after how many records a state is due
 pub record Listed : Type 0 where

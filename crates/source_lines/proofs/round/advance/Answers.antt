@@ -1,7 +1,7 @@
-use Rattle.std.proofs.Common.{◌≡◌, ℕ, List, Option, None, Ok, Err, refl, sym, ◌∙◌, ap, subst}
+use Rattle.std.proofs.Common.{ℕ, List, Option, ◌∙◌, subst}
 use Rattle.outside.specs.declared.status.Status.TheVariants as status
 use Rattle.source_lines.specs.Turns.{GivesLine}
-use Rattle.source_lines.specs.Sources.{GoesOn, Opens, OpensNotNext, Round, SourceSeen, goes_on}
+use Rattle.source_lines.specs.Sources.{Opens, OpensNotNext, Round, goes_on}
 use Rattle.source_lines.proofs.RoundLemmas.{as_it_came, memory_no_fault, not_opened, ok_no_fault, opened_answer, round_same, source_same}
 use Rattle.source_lines.proofs.round.advance.Goals as goal
 

@@ -1,6 +1,6 @@
-use Rattle.std.proofs.Common.{inl, ◌≡◌, ◌≢◌, ◌+◌, ℕ, List, refl, sym, ◌∙◌, ap, subst}
+use Rattle.std.proofs.Common.{inl, ◌≡◌, ◌+◌, ℕ, List, refl, ap, subst}
 use Rattle.outside.specs.declared.status.Status.TheVariants as status
-use Rattle.source_lines.specs.Sources.{Listed, Opens, OpensNotNext, Round, listed_lines}
+use Rattle.source_lines.specs.Sources.{Listed, Opens, OpensNotNext, Round}
 use Rattle.source_lines.proofs.round.open_next.Goals as goal
 
 pub returns-in-Ok-clause-opened : goal.returns-in-Ok-clause-opened

@@ -1,4 +1,4 @@
-use Rattle.std.proofs.Common.{◌≡◌, ◌∙◌, ℕ, List, Option, Result, Ok, Err, ap, subst, is_some}
+use Rattle.std.proofs.Common.{◌≡◌, ◌∙◌, ℕ, Result, Err, ap, subst, is_some}
 use Rattle.basics.specs.Told.{RoseIf}
 use Rattle.json_fields.specs.Answer.{IsOnly}
 use Rattle.outside.specs.Feed.{FeedSeen, ended_with, nothing_left}
