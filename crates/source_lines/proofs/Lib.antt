@@ -3,3 +3,6 @@ mod TurnLemmas
 mod HeadLemmas
 mod LineLemmas
 mod GivingLemmas
+mod BeginLemmas
+mod RoundLemmas
+mod FeedLemmas

@@ -4,3 +4,6 @@ pub mod Streams
 pub mod Turns
 pub mod Laws
 pub mod Heads
+pub mod Begins
+pub mod Sources
+pub mod SourceFeeds
