@@ -7,6 +7,7 @@ use Rattle.airbyte_message.specs.Lanes.{Lane, one, all, lane_of}
 use Rattle.airbyte_message.specs.State.{State}
 use Rattle.load_rules.specs.Lines.{Line}
 use Rattle.airbyte_message.specs.declared.message.Message.{Message}
+use Rattle.airbyte_message.specs.declared.message.Message.TheVariants as message
 use Rattle.local_world.specs.Starts.{Holds, IsNowhere, ReachTo, Start}
 use Rattle.local_world.specs.Left.{is_of, left_behind}
 
@@ -68,14 +69,26 @@ pub record Passes (number : ℕ) (found : Option Message) (old new : Awaited) (i
   pub come : AllCome number found old.states old.reached new.reached
   pub out : is_out ≡ is_awaited (is_of_state found) old.states old.reached
 
+-- a line that is neither a record nor a state
+abbrev pub IsNeither : Option Message → Type 0
+IsNeither None = Unit {0}
+IsNeither (Some (message.Rec content)) = ⊥
+IsNeither (Some (message.State state)) = ⊥
+IsNeither (Some (message.Log content)) = Unit {0}
+IsNeither (Some (message.Spec content)) = Unit {0}
+IsNeither (Some (message.Connection content)) = Unit {0}
+IsNeither (Some (message.Catalog content)) = Unit {0}
+IsNeither (Some (message.Trace content)) = Unit {0}
+IsNeither (Some (message.Control content)) = Unit {0}
+
 -- how many have not come
 abbrev pub count_none : Option ℕ → ℕ
 count_none None = 1
 count_none (Some count) = 0
 
-abbrev pub missing : List (Option ℕ) → ℕ
-missing [] = 0
-missing (reached ∷ more) = count_none reached + missing more
+abbrev pub count_missing : List (Option ℕ) → ℕ
+count_missing [] = 0
+count_missing (reached ∷ more) = count_none reached + count_missing more
 
 -- a start of the state's lane, where the state came, or behind all lines so far
 abbrev pub IsStartFrom : ℕ → Option ℕ → ℕ → Type 0

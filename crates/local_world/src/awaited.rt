@@ -28,13 +28,13 @@ impl Model for Awaited {
     ghost use Rattle.std.specs.Prelude.{◌≡◌, None, length};
     ghost use Rattle.std.specs.List.{filter_map};
     ghost use Rattle.state_kinds.specs.StateLists.{list_fault, stream_of};
-    ghost use Rattle.local_world.specs.Awaited.{Awaited, missing};
+    ghost use Rattle.local_world.specs.Awaited.{Awaited, count_missing};
 
     ghost Value = { Awaited };
 
     ghost view = { λ awaited. record { states = awaited.states; reached = awaited.reached.items } };
 
-    ghost invariant = { λ awaited. (list_fault awaited.states ≡ None) × (awaited.index ≡ filter_map (λ state. stream_of state.kind) awaited.states) × (length awaited.reached.items ≡ length awaited.states) × (awaited.missing ≡ missing awaited.reached.items) };
+    ghost invariant = { λ awaited. (list_fault awaited.states ≡ None) × (awaited.index ≡ filter_map (λ state. stream_of state.kind) awaited.states) × (length awaited.reached.items ≡ length awaited.states) × (awaited.missing ≡ count_missing awaited.reached.items) };
 }
 
 // The stream that a state is of.
@@ -89,12 +89,14 @@ fn none_reached(alloc: Global, count: usize) -> Result<Vec<Option<usize>>, NoMem
 }
 
 impl Awaited {
-    ghost use Rattle.std.specs.Prelude.{◌≡◌, ◌<◌, ◌↔◌, IfOk, IsTrue, None, Some, length, option_map, replicate};
+    ghost use Rattle.std.specs.Prelude.{◌≡◌, ℕ, ◌<◌, ◌↔◌, IfOk, IfSome, IsTrue, None, Some, length, option_map, replicate, slice_get, slice_set};
     ghost use Rattle.std.specs.Option.{option_copied};
     ghost use Rattle.airbyte_message.specs.Views.{message_at};
+    ghost use Rattle.airbyte_message.specs.declared.message.Message.{Message};
     ghost use Rattle.airbyte_message.specs.declared.message.Message.TheVariants as message;
+    ghost use Rattle.airbyte_message.specs.declared.message.RecordMsg.{RecordMsg};
     ghost use Rattle.state_kinds.specs.StateLists.{list_fault};
-    ghost use Rattle.local_world.specs.Awaited.{IsOnlyAt, Passes, is_awaited, missing, state_has};
+    ghost use Rattle.local_world.specs.Awaited.{IsNeither, IsOnlyAt, Passes, count_missing, state_has};
 
     /// These states, of which none has come.
     pub fn new(alloc: Global, states: StateList) -> Result<Self, NoMemory>
@@ -114,27 +116,50 @@ impl Awaited {
 
     /// Whether a state has not come yet.
     pub fn is_missing(&self) -> bool
-        ensures { IsTrue result ↔ (0 < missing self.now.reached) }
+        ensures { IsTrue result ↔ (0 < count_missing self.now.reached) }
     {
         self.missing > 0
     }
 
     // The place of the state whose lane has records and states of a stream, or of no one stream.
     fn place_of(&self, id: Option<&StreamId>) -> Option<usize>
-        ensures { IsOnlyAt (state_has (option_copied id.entry)) self.now.states result }
+        ensures only { IsOnlyAt (state_has (option_copied id.entry)) self.now.states result }
+        ensures within { IfSome result (λ place. place < length self.now.states) }
+        ensures lengths { length self.now.reached ≡ length self.now.states }
     {
         if self.index.len() < self.states.len() {
             return Some(0);
         }
-        self.index.find(id?)
+        match id {
+            Some(id) => self.index.find(id),
+            None => None,
+        }
+    }
+
+    // How many lines reach up to the state at a place, where it has come.
+    fn reached_at(&self, place: usize) -> Option<usize>
+        requires { place < length self.now.reached }
+        ensures { slice_get self.now.reached place ≡ Some result }
+    {
+        self.reached[place]
+    }
+
+    // Notes that the state at a place has come.
+    fn come(&mut self, place: usize, count: usize)
+        requires { slice_get self.old.reached place ≡ Some None }
+        ensures states { self.new.states ≡ self.old.states }
+        ensures reached { self.new.reached ≡ slice_set self.old.reached place (Some count) }
+    {
+        self.missing -= 1;
+        self.reached[place] = Some(count);
     }
 
     // Whether the state whose lane has the stream's records has not come yet.
     fn awaits(&self, id: &StreamId) -> bool
-        ensures { result ≡ is_awaited (state_has (Some id.now)) self.now.states self.now.reached }
+        ensures { (number : ℕ) (content : RecordMsg) → content.id ≡ id.now → Passes number (Some (message.Rec content)) self.now self.now result }
     {
         match self.place_of(Some(id)) {
-            Some(place) => self.reached[place].is_none(),
+            Some(place) => self.reached_at(place).is_none(),
             None => false,
         }
     }
@@ -152,15 +177,38 @@ impl Awaited {
         let Some(place) = self.place_of(stream_of(state.kind())) else {
             return Ok(false);
         };
-        if self.reached[place].is_some() {
+        if self.reached_at(place).is_some() {
             return Ok(false);
         }
-        if !same_state(alloc, state, self.states.at(place))? {
-            return Ok(true);
+        if same_state(alloc, state, self.states.at(place))? {
+            self.come(place, number + 1);
         }
-        self.reached[place] = Some(number + 1);
-        self.missing -= 1;
         Ok(true)
+    }
+
+    // A line that is neither a record nor a state is not left out.
+    fn passes_over(&self) -> bool
+        ensures { (number : ℕ) (found : Option Message) → IsNeither found → Passes number found self.now self.now result }
+    {
+        let _ = &self.states;
+        false
+    }
+
+    // Notes a message.
+    fn pass_message(
+        &mut self,
+        alloc: Global,
+        number: usize,
+        message: &Message,
+    ) -> Result<bool, NoMemory>
+        requires { number < usize.MAX }
+        ensures { IfOk result (Passes number (Some message.now) self.old self.new) }
+    {
+        match message {
+            Message::Rec(content) => Ok(self.awaits(&content.id)),
+            Message::State(state) => self.pass_state(alloc, number, state),
+            _ => Ok(self.passes_over()),
+        }
     }
 
     /// Notes the line with this number, from 0, by the message that it is: whether it is left out, since the state of its
@@ -169,22 +217,18 @@ impl Awaited {
         &mut self,
         alloc: Global,
         number: usize,
-        found: Option<MessageView<'_>>,
+        found: &Option<MessageView<'_>>,
     ) -> Result<bool, NoMemory>
         requires { number < usize.MAX }
-        ensures { IfOk result (Passes number (option_map message_at found.entry) self.old self.new) }
+        ensures { IfOk result (Passes number (option_map message_at found.now) self.old self.new) }
     {
         match found {
             Some(MessageView::Rec(record)) => {
                 let id = own_id(alloc, &record.id)?;
                 Ok(self.awaits(&id))
             }
-            Some(MessageView::Owned(Message::Rec(record))) => Ok(self.awaits(&record.id)),
-            Some(MessageView::Owned(Message::State(state))) => {
-                self.pass_state(alloc, number, &state)
-            }
-            Some(MessageView::Owned(_)) => Ok(false),
-            None => Ok(false),
+            Some(MessageView::Owned(message)) => self.pass_message(alloc, number, message),
+            None => Ok(self.passes_over()),
         }
     }
 }

@@ -41,7 +41,7 @@ pub fn read_front(alloc: Global, text: &[u8], states: StateList) -> Result<Front
             return Err(StateFault::OutOfRange);
         };
         let found = reader.read(&text[line.start..line.end])?;
-        if !awaited.pass(alloc, number, found)? {
+        if !awaited.pass(alloc, number, &found)? {
             let place = Place {
                 start: line.start,
                 end: line.end,

@@ -1,0 +1,31 @@
+use Rattle.std.proofs.Common.{◌≡◌, ℕ, Option, None, Some, List, length, sym, ap, ◌∙◌, subst, refl}
+use Rattle.local_world.proofs.awaited.Awaited.pass_state.Goals as goal
+use Rattle.local_world.specs.Awaited.{IsOnlyAt, Passes, state_has}
+use Rattle.local_world.proofs.AwaitLemmas.{none_there, own_only, passed_early, passed_later, passed_now, passed_other, some_there}
+
+pub returns-in_default : goal.returns-in_default
+returns-in_default c =
+    passed_other c.args.number c.args.state.now c.args.self.now c.place_of.ensures.lengths
+    (own_only c.args.state.now _ c.kind.result.now c.args.self.now.states c.place_of.result None c.place_of.ensures.only c.stream_of.ensures c.kind.ensures c.in_default.is)
+
+pub returns-then-is_some : goal.returns-then-is_some
+returns-then-is_some c =
+    let at = some_there c.reached_at.result (sym c.if-is_some.ensures) in
+    passed_later c.args.number c.args.state.now c.args.self.now c.in-Some.place at.0 c.place_of.ensures.lengths
+    (own_only c.args.state.now _ c.kind.result.now c.args.self.now.states c.place_of.result (Some c.in-Some.place) c.place_of.ensures.only c.stream_of.ensures c.kind.ensures c.in-Some.is)
+    (c.reached_at.ensures ∙ ap (λ (o : Option ℕ). Some o) at.1)
+
+pub returns-then-branch : goal.returns-then-branch
+returns-then-branch c =
+    let at = none_there c.reached_at.result (sym c.if-is_some.ensures) in
+    let e = c.in_ok-same_state in
+    passed_now c.args.number c.args.state.now c.args.self.now c.come.new.self c.in-Some.place c.at.result.now c.place_of.ensures.lengths
+    (own_only c.args.state.now _ c.kind.result.now c.args.self.now.states c.place_of.result (Some c.in-Some.place) c.place_of.ensures.only c.stream_of.ensures c.kind.ensures c.in-Some.is)
+    ? (c.reached_at.ensures ∙ ap (λ (o : Option ℕ). Some o) at) ? c.come.ensures.states c.come.ensures.reached
+
+pub returns-else-branch : goal.returns-else-branch
+returns-else-branch c =
+    let at = none_there c.reached_at.result (sym c.if-is_some.ensures) in
+    passed_early c.args.number c.args.state.now c.args.self.now c.in-Some.place c.at.result.now c.place_of.ensures.lengths
+    (own_only c.args.state.now _ c.kind.result.now c.args.self.now.states c.place_of.result (Some c.in-Some.place) c.place_of.ensures.only c.stream_of.ensures c.kind.ensures c.in-Some.is)
+    ? (c.reached_at.ensures ∙ ap (λ (o : Option ℕ). Some o) at) ?
