@@ -1,6 +1,6 @@
 -- Awaited states, and what one line more makes of them.
 use Rattle.std.proofs.Common.{◌≡◌, ◌⊎◌, inl, inr, ℕ, zero, suc, ◌+◌, ◌<◌, ◌≤◌, List, [], ◌∷◌, length, Option, None, Some, Bool, true, false, ◌||◌, refl, sym, ◌∙◌, ap, subst, arith, slice_get, replicate, set}
-use Rattle.std.specs.Prelude.{IfSome, IsSomeAnd, is_none, is_some, not}
+use Rattle.std.specs.Prelude.{IfSome, IsSomeAnd, IsTrue, is_none, is_some, not}
 use Rattle.std.proofs.lemmas.List.{length-replicate}
 use Rattle.basics.specs.declared.stream.StreamId.{StreamId}
 use Rattle.outside.specs.Tables.{same_id}
@@ -259,6 +259,15 @@ none_there (Some count) e = true_false e
 pub some_there : (o : Option ℕ) → is_some o ≡ true → (count : ℕ) × (o ≡ Some count)
 some_there None e = true_false (sym e)
 some_there (Some count) e = (count, refl)
+
+pub found_at : (states : List State) (awaited : Awaited) (place : ℕ) (state : State) → states ≡ awaited.states → slice_get states place ≡ Some state → slice_get awaited.states place ≡ Some state
+found_at states awaited place state same at = ap (λ (ss : List State). slice_get ss place) (sym same) ∙ at
+
+pub is_true : {b : Bool} → b ≡ true → IsTrue b
+is_true {b} e = subst (λ (x : Bool). IsTrue x) (sym e) tt
+
+pub not_true : {b : Bool} → b ≡ false → ¬ IsTrue b
+not_true {b} e = λ holds. let P : Bool → Type 0 = λ x. IsTrue x in subst P e holds
 
 -- ---- how many have not come
 

@@ -89,7 +89,7 @@ fn none_reached(alloc: Global, count: usize) -> Result<Vec<Option<usize>>, NoMem
 }
 
 impl Awaited {
-    ghost use Rattle.std.specs.Prelude.{◌≡◌, ℕ, ◌<◌, ◌↔◌, IfOk, IfSome, IsTrue, None, Some, length, option_map, replicate, slice_get, slice_set};
+    ghost use Rattle.std.specs.Prelude.{◌≡◌, ℕ, ◌<◌, ◌↔◌, Option, IfOk, IfSome, IsTrue, None, Some, length, option_map, replicate, slice_get, slice_set};
     ghost use Rattle.std.specs.Option.{option_copied};
     ghost use Rattle.airbyte_message.specs.Views.{message_at};
     ghost use Rattle.airbyte_message.specs.declared.message.Message.{Message};

@@ -13,7 +13,9 @@ overflow_sub-self c =
     omega (arith, one, e)
 
 pub index_mut-requires : goal.index_mut-requires
-index_mut-requires c = ?
+index_mut-requires c =
+    let at = subst (λ (a : Awaited). slice_get a.reached c.args.place ≡ Some None) (sym c.self.view_is) c.requires in
+    slice_get_within c.self.inside.reached.items c.args.place None at
 
 pub invariant_of-self : goal.invariant_of-self
 invariant_of-self c =
