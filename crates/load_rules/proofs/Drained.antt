@@ -5,14 +5,13 @@ use Rattle.std.specs.List.{AllByRecursion, list_all}
 use Rattle.std.proofs.lemmas.List.{append-nil}
 use Rattle.std.proofs.lemmas.Bool.{and_parts, and_from, or_cases, eqb-true, eq-eqb, ne_eqb, cases_eq, false≢true}
 use Rattle.outside.specs.Tables.{same_id}
-use Rattle.outside.specs.declared.event.RawRow.{RawRow}
 use Rattle.catalog.specs.declared.stream.ConfStream.{ConfStream}
 use Rattle.airbyte_message.specs.Lanes.{Lane}
 use Rattle.load_rules.specs.Prefixes.{IsPrefix}
 use Rattle.load_rules.specs.Lines.{Line}
 use Rattle.load_rules.specs.Taken.{Entry, entries, LaneState, states, of_lane, covers, is_in}
 use Rattle.load_rules.specs.Acts.{Act, Takes, Ends, Commits, Echoes, Turns, taken, committed, echoed}
-use Rattle.load_rules.specs.Machine.{Placed, Machine, Step, Accept, End, Seal, HandOut, Commit, TakeBack, Release, Turn, start, is_out, is_done, entry_of, in_batch, is_releasable, commits, releases, hands_out, commits_at, happens, run, accepted, IsDrained}
+use Rattle.load_rules.specs.Machine.{Placed, Machine, Step, Accept, End, Seal, HandOut, Commit, TakeBack, Release, Turn, start, is_out, is_done, entry_of, in_batch, is_releasable, have_sequences, commits, commits_batch, releases, hands_out, commits_at, happens, run, accepted, IsDrained}
 use Rattle.load_rules.specs.Laws.{DrainedIsDone, OrderIsFree, NoStateIsLeft}
 use Rattle.load_rules.proofs.TakenLists.{Numbered, numbered, covered_front}
 use Rattle.load_rules.proofs.Machines.{IsMarked, Rising, IsGood, seqs, good_run, good_start, taken-more, commit_taken, echo_taken, length_placed}
@@ -96,56 +95,60 @@ echoed_is m g d lane =
 quiet_step : (acts now : List Act) (steps : List Step) → taken now ≡ taken acts → taken now ++ accepted steps ≡ taken acts ++ accepted steps
 quiet_step acts now steps same = ap (λ lines. lines ++ accepted steps) same
 
-step_taken : (streams : List ConfStream) (row : ℕ → Entry → RawRow) (m : Machine) (step : Step) (steps : List Step) → taken (happens streams row m step).acts ++ accepted steps ≡ taken m.acts ++ accepted (step ∷ steps)
-step_taken streams row m (Accept line) steps = ap (λ lines. lines ++ accepted steps) (taken-more m.acts (Takes line)) ∙ append_assoc (taken m.acts) (line ∷ []) (accepted steps)
-step_taken streams row m End steps = quiet_step m.acts (m.acts ++ Ends ∷ []) steps (taken-more m.acts Ends ∙ append-nil (taken m.acts))
-step_taken streams row m (Seal id count) steps = refl
-step_taken streams row m (HandOut id count batch) steps = at (filter (λ placed. is_out batch placed.place) m.placed)
+step_taken : (streams : List ConfStream) (m : Machine) (step : Step) (steps : List Step) → taken (happens streams m step).acts ++ accepted steps ≡ taken m.acts ++ accepted (step ∷ steps)
+step_taken streams m (Accept line) steps = ap (λ lines. lines ++ accepted steps) (taken-more m.acts (Takes line)) ∙ append_assoc (taken m.acts) (line ∷ []) (accepted steps)
+step_taken streams m End steps = quiet_step m.acts (m.acts ++ Ends ∷ []) steps (taken-more m.acts Ends ∙ append-nil (taken m.acts))
+step_taken streams m (Seal id count) steps = refl
+step_taken streams m (HandOut id count batch) steps = at (filter (λ placed. is_out batch placed.place) m.placed)
   where
     at : (others : List Placed) → taken (hands_out m id count batch others).acts ++ accepted steps ≡ taken m.acts ++ accepted steps
     at [] = refl
     at (other ∷ others) = refl
-step_taken streams row m (Commit number id batch) steps = at (slice_get streams number)
+step_taken streams m (Commit number id batch rows) steps = at (slice_get streams number)
   where
-    these : (list : List Entry) → taken (commits row m number id batch list).acts ++ accepted steps ≡ taken m.acts ++ accepted steps
-    these [] = refl
-    these (entry ∷ more) = quiet_step m.acts (m.acts ++ Commits number (map (row number) (entry ∷ more)) ∷ []) steps (commit_taken m.acts number (map (row number) (entry ∷ more)))
+    kept : (b : Bool) → taken (cond b (commits m number id batch rows) m).acts ++ accepted steps ≡ taken m.acts ++ accepted steps
+    kept true = quiet_step m.acts (m.acts ++ Commits number rows ∷ []) steps (commit_taken m.acts number rows)
+    kept false = refl
 
-    of_stream : (b : Bool) → taken (cond b (commits row m number id batch (in_batch id batch m.placed)) m).acts ++ accepted steps ≡ taken m.acts ++ accepted steps
+    these : (list : List Entry) → taken (commits_batch m number id batch rows list).acts ++ accepted steps ≡ taken m.acts ++ accepted steps
+    these [] = refl
+    these (entry ∷ more) = kept (have_sequences rows (entry ∷ more))
+
+    of_stream : (b : Bool) → taken (cond b (commits_batch m number id batch rows (in_batch id batch m.placed)) m).acts ++ accepted steps ≡ taken m.acts ++ accepted steps
     of_stream true = these (in_batch id batch m.placed)
     of_stream false = refl
 
-    at : (found : Option ConfStream) → taken (commits_at row m number id batch found).acts ++ accepted steps ≡ taken m.acts ++ accepted steps
+    at : (found : Option ConfStream) → taken (commits_at m number id batch rows found).acts ++ accepted steps ≡ taken m.acts ++ accepted steps
     at None = refl
     at (Some stream) = of_stream (same_id stream.id id)
-step_taken streams row m (TakeBack id batch) steps = refl
-step_taken streams row m Release steps = at (find (is_releasable m.acts) m.waiting)
+step_taken streams m (TakeBack id batch) steps = refl
+step_taken streams m Release steps = at (find (is_releasable m.acts) m.waiting)
   where
     at : (found : Option LaneState) → taken (releases m found).acts ++ accepted steps ≡ taken m.acts ++ accepted steps
     at None = refl
     at (Some state) = quiet_step m.acts (m.acts ++ Echoes state ∷ []) steps (echo_taken m.acts state)
-step_taken streams row m Turn steps = quiet_step m.acts (m.acts ++ Turns ∷ []) steps (taken-more m.acts Turns ∙ append-nil (taken m.acts))
+step_taken streams m Turn steps = quiet_step m.acts (m.acts ++ Turns ∷ []) steps (taken-more m.acts Turns ∙ append-nil (taken m.acts))
 
-pub run_taken : (streams : List ConfStream) (row : ℕ → Entry → RawRow) (steps : List Step) (m : Machine) → taken (run streams row steps m).acts ≡ taken m.acts ++ accepted steps
-run_taken streams row [] m = sym (append-nil (taken m.acts))
-run_taken streams row (step ∷ steps) m = run_taken streams row steps (happens streams row m step) ∙ step_taken streams row m step steps
+pub run_taken : (streams : List ConfStream) (steps : List Step) (m : Machine) → taken (run streams steps m).acts ≡ taken m.acts ++ accepted steps
+run_taken streams [] m = sym (append-nil (taken m.acts))
+run_taken streams (step ∷ steps) m = run_taken streams steps (happens streams m step) ∙ step_taken streams m step steps
 
 pub no_state_is_left : NoStateIsLeft
-no_state_is_left streams row steps keeps d = waits_none (run streams row steps start) (good_run streams row steps start keeps good_start) d
+no_state_is_left streams steps d = waits_none (run streams steps start) (good_run streams steps start good_start) d
 
 pub drained_is_done : DrainedIsDone
-drained_is_done streams row steps keeps d =
-    let m = run streams row steps start in
-    let g = good_run streams row steps start keeps good_start in
+drained_is_done streams steps d =
+    let m = run streams steps start in
+    let g = good_run streams steps start good_start in
     record { committed_all = committed_is m g d; echoed_all = echoed_is m g d }
 
 pub order_is_free : OrderIsFree
-order_is_free streams row other first second keeps other_keeps same first_ends second_ends =
-    let f = run streams row first start in
-    let s = run streams other second start in
-    let fg = good_run streams row first start keeps good_start in
-    let sg = good_run streams other second start other_keeps good_start in
-    let alike : taken f.acts ≡ taken s.acts = run_taken streams row first start ∙ (same ∙ sym (run_taken streams other second start)) in
+order_is_free streams first second same first_ends second_ends =
+    let f = run streams first start in
+    let s = run streams second start in
+    let fg = good_run streams first start good_start in
+    let sg = good_run streams second start good_start in
+    let alike : taken f.acts ≡ taken s.acts = run_taken streams first start ∙ (same ∙ sym (run_taken streams second start)) in
     record {
       committed_alike = λ seq. committed_is f fg first_ends seq ∙ (ap (λ lines. is_in seq (seqs (entries lines))) alike ∙ sym (committed_is s sg second_ends seq));
       echoed_alike = λ lane. echoed_is f fg first_ends lane ∙ (ap (λ lines. of_lane lane (states lines)) alike ∙ sym (echoed_is s sg second_ends lane));

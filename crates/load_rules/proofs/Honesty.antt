@@ -347,4 +347,4 @@ honest_at streams read events front rest (Saved x) reading short safe opens pipe
 honest_at streams read events front rest (Ended x) reading short safe opens pipes is = tt
 
 pub pipes_are_honest : PipesAreHonest
-pipes_are_honest streams read attempt reading short safe opens pipes = each_from (HonestFits streams read) [] attempt.events (λ front rest next is. honest_at streams read attempt.events front rest next reading short safe opens pipes is)
+pipes_are_honest streams read attempt reading safe opens lines = each_from (HonestFits streams read) [] attempt.events (λ front rest next is. honest_at streams read attempt.events front rest next reading lines.few safe opens lines.pipes is)

@@ -14,3 +14,5 @@ pub mod Pipes
 pub mod Returns
 pub mod Honesty
 pub mod Held
+pub mod Finishes
+pub mod HonestRuns

@@ -6,7 +6,7 @@ use Rattle.std.proofs.lemmas.List.{append-nil, map-append}
 use Rattle.std.proofs.lemmas.List.Elements.{filter_map-append, filter-append}
 use Rattle.std.proofs.lemmas.List.Folds.{list_any-append}
 use Rattle.std.proofs.lemmas.Grind.{flat_map-append}
-use Rattle.std.proofs.lemmas.Bool.{and_parts, or_right, eq-eqb, cases_Bool, false≢true, ne_eqb}
+use Rattle.std.proofs.lemmas.Bool.{and_parts, or_right, eq-eqb, eqb-true, cases_Bool, false≢true, ne_eqb}
 use Rattle.basics.specs.declared.stream.StreamId.{StreamId}
 use Rattle.outside.specs.Tables.{same_id}
 use Rattle.outside.specs.declared.event.RawRow.{RawRow}
@@ -20,7 +20,7 @@ use Rattle.load_rules.specs.Prefixes.{IsPrefix}
 use Rattle.load_rules.specs.Lines.{Line, record_in, state_in}
 use Rattle.load_rules.specs.Taken.{Entry, and_record, entries_from, entries, LaneState, state_of, state_of_lane, states, of_lane, covers, is_same_lane, is_in}
 use Rattle.load_rules.specs.Acts.{Act, Takes, Ends, Commits, Echoes, Turns, line_of, taken, rows_of, committed, state_echoed, echoed}
-use Rattle.load_rules.specs.Machine.{Place, Queued, Sealed, Out, Done, Placed, Machine, Step, Accept, End, Seal, HandOut, Commit, TakeBack, Release, Turn, start, queue, is_out, is_sealed, is_queued, is_done, is_queued_of, is_sealed_of, is_in_batch, put_in, move, move_first, entry_of, in_batch, is_releasable, without_first, accepts, commits, releases, hands_out, commits_at, happens, run, KeepsSequences}
+use Rattle.load_rules.specs.Machine.{Place, Queued, Sealed, Out, Done, Placed, Machine, Step, Accept, End, Seal, HandOut, Commit, TakeBack, Release, Turn, start, queue, is_out, is_sealed, is_queued, is_done, is_queued_of, is_sealed_of, is_in_batch, put_in, move, move_first, entry_of, in_batch, is_releasable, without_first, accepts, have_sequences, commits, commits_batch, releases, hands_out, commits_at, happens, run}
 use Rattle.load_rules.proofs.TakenLists.{entries-append, states-append, all_append, all_weaker, all_both, Numbered, numbered, covered_front}
 
 -- the place of a record says whether it is committed
@@ -215,9 +215,16 @@ seqs list = map (λ entry. entry.seq) list
 abbrev pub picked : (Placed → Bool) → List Placed → List Entry
 picked test list = map entry_of (filter test list)
 
-pub seqs-rows : (row : ℕ → Entry → RawRow) (number : ℕ) (list : List Entry) → KeepsSequences row → map (λ (made : RawRow). made.seq) (map (row number) list) ≡ seqs list
-seqs-rows row number [] keeps = refl
-seqs-rows row number (entry ∷ more) keeps = grind (arith, keeps number entry, seqs-rows row number more keeps)
+-- rows that have the sequences of records, as an equation of lists
+pub sequences_are : (rows : List RawRow) (list : List Entry) → have_sequences rows list ≡ true → map (λ (made : RawRow). made.seq) rows ≡ seqs list
+sequences_are [] [] e = refl
+sequences_are [] (entry ∷ more) e = absurd (false≢true e)
+sequences_are (row ∷ rows) [] e = absurd (false≢true e)
+sequences_are (row ∷ rows) (entry ∷ more) e =
+    let parts = and_parts (eqb row.seq entry.seq) (have_sequences rows more) e in
+    let first = eqb-true row.seq entry.seq parts.0 in
+    let deeper = sequences_are rows more parts.1 in
+    rw (first, deeper) refl
 
 not_picked : (seq n : ℕ) (test : Placed → Bool) (list : List Placed) → seq < n → Numbered n (map entry_of list) → is_in seq (seqs (picked test list)) ≡ false
 not_picked seq n test [] lt counts = refl
@@ -273,11 +280,8 @@ below_picked n m test (first ∷ more) counts le = either (test first) (filter t
     either true rest each = (omega (arith, counts.0, le), each)
     either false rest each = each
 
-abbrev pub with_commit : (ℕ → Entry → RawRow) → Machine → ℕ → StreamId → ℕ → List Entry → Machine
-with_commit row m number id batch list = record { acts = m.acts ++ Commits number (map (row number) list) ∷ []; placed = move (is_in_batch id batch) Done m.placed; waiting = m.waiting }
-
-pub commit_done : (row : ℕ → Entry → RawRow) (acts : List Act) (number : ℕ) (list : List Entry) → KeepsSequences row → committed (acts ++ Commits number (map (row number) list) ∷ []) ≡ committed acts ++ seqs list
-commit_done row acts number list keeps = committed-more acts (Commits number (map (row number) list)) ∙ ap (λ more. committed acts ++ more) (ap (map (λ (made : RawRow). made.seq)) (append-nil (map (row number) list)) ∙ seqs-rows row number list keeps)
+pub commit_done : (acts : List Act) (number : ℕ) (rows : List RawRow) → committed (acts ++ Commits number rows ∷ []) ≡ committed acts ++ map (λ row. row.seq) rows
+commit_done acts number rows = committed-more acts (Commits number rows) ∙ ap (λ more. committed acts ++ more) (ap (map (λ (made : RawRow). made.seq)) (append-nil rows))
 
 pub commit_taken : (acts : List Act) (number : ℕ) (rows : List RawRow) → taken (acts ++ Commits number rows ∷ []) ≡ taken acts
 commit_taken acts number rows = taken-more acts (Commits number rows) ∙ append-nil (taken acts)
@@ -285,29 +289,34 @@ commit_taken acts number rows = taken-more acts (Commits number rows) ∙ append
 pub commit_echoed : (lane : Lane) (acts : List Act) (number : ℕ) (rows : List RawRow) → echoed lane (acts ++ Commits number rows ∷ []) ≡ echoed lane acts
 commit_echoed lane acts number rows = echoed-more lane acts (Commits number rows) ∙ append-nil (echoed lane acts)
 
-good_with_commit : (row : ℕ → Entry → RawRow) (m : Machine) (number : ℕ) (id : StreamId) (batch : ℕ) → KeepsSequences row → IsGood m → IsGood (with_commit row m number id batch (in_batch id batch m.placed))
-good_with_commit row m number id batch keeps g =
+good_commit : (m : Machine) (number : ℕ) (id : StreamId) (batch : ℕ) (rows : List RawRow) → map (λ (made : RawRow). made.seq) rows ≡ seqs (in_batch id batch m.placed) → IsGood m → IsGood (commits m number id batch rows)
+good_commit m number id batch rows same g =
     let test = is_in_batch id batch
     in let list = in_batch id batch m.placed
-    in let taken_is = commit_taken m.acts number (map (row number) list)
+    in let taken_is = commit_taken m.acts number rows
+    in let done_is : committed (m.acts ++ Commits number rows ∷ []) ≡ committed m.acts ++ seqs list = commit_done m.acts number rows ∙ ap (λ more. committed m.acts ++ more) same
     in record {
       entries_are = entries-move test Done m.placed ∙ (g.entries_are ∙ ap entries (sym taken_is));
-      marked = subst (λ done. AllByRecursion (IsMarked done) (move test Done m.placed)) (sym (commit_done row m.acts number list keeps)) (marked-commit (committed m.acts) (seqs list) test m.placed g.marked (picked_is 0 test m.placed (numbered_placed m g)));
-      below = subst (λ n. AllByRecursion (λ seq. seq < n) (committed (m.acts ++ Commits number (map (row number) list) ∷ []))) (sym (length-move test Done m.placed)) (subst (AllByRecursion (λ seq. seq < length m.placed)) (sym (commit_done row m.acts number list keeps)) (all_append (λ seq. seq < length m.placed) (committed m.acts) (seqs list) g.below (below_picked 0 (length m.placed) test m.placed (numbered_placed m g) (omega arith))));
-      lanes = λ lane. lanes_quiet m.acts (m.acts ++ Commits number (map (row number) list) ∷ []) m.waiting lane taken_is (commit_echoed lane m.acts number (map (row number) list)) (g.lanes lane);
+      marked = subst (λ done. AllByRecursion (IsMarked done) (move test Done m.placed)) (sym done_is) (marked-commit (committed m.acts) (seqs list) test m.placed g.marked (picked_is 0 test m.placed (numbered_placed m g)));
+      below = subst (λ n. AllByRecursion (λ seq. seq < n) (committed (m.acts ++ Commits number rows ∷ []))) (sym (length-move test Done m.placed)) (subst (AllByRecursion (λ seq. seq < length m.placed)) (sym done_is) (all_append (λ seq. seq < length m.placed) (committed m.acts) (seqs list) g.below (below_picked 0 (length m.placed) test m.placed (numbered_placed m g) (omega arith))));
+      lanes = λ lane. lanes_quiet m.acts (m.acts ++ Commits number rows ∷ []) m.waiting lane taken_is (commit_echoed lane m.acts number rows) (g.lanes lane);
       rising = subst (λ lines. Rising [] lines m.waiting) (sym taken_is) g.rising;
     }
 
-good_commit : (row : ℕ → Entry → RawRow) (m : Machine) (number : ℕ) (id : StreamId) (batch : ℕ) (list : List Entry) → KeepsSequences row → list ≡ in_batch id batch m.placed → IsGood m → IsGood (commits row m number id batch list)
-good_commit row m number id batch [] keeps is g = g
-good_commit row m number id batch (entry ∷ more) keeps is g = subst (λ list. IsGood (with_commit row m number id batch list)) (sym is) (good_with_commit row m number id batch keeps g)
-
-good_commit_at : (row : ℕ → Entry → RawRow) (m : Machine) (number : ℕ) (id : StreamId) (batch : ℕ) (found : Option ConfStream) → KeepsSequences row → IsGood m → IsGood (commits_at row m number id batch found)
-good_commit_at row m number id batch None keeps g = g
-good_commit_at row m number id batch (Some stream) keeps g = at (same_id stream.id id)
+good_commit_batch : (m : Machine) (number : ℕ) (id : StreamId) (batch : ℕ) (rows : List RawRow) (list : List Entry) → list ≡ in_batch id batch m.placed → IsGood m → IsGood (commits_batch m number id batch rows list)
+good_commit_batch m number id batch rows [] is g = g
+good_commit_batch m number id batch rows (entry ∷ more) is g = at (cases_Bool (have_sequences rows (entry ∷ more)))
   where
-    at : (b : Bool) → IsGood (cond b (commits row m number id batch (in_batch id batch m.placed)) m)
-    at true = good_commit row m number id batch (in_batch id batch m.placed) keeps refl g
+    at : (have_sequences rows (entry ∷ more) ≡ true) ⊎ (have_sequences rows (entry ∷ more) ≡ false) → IsGood (cond (have_sequences rows (entry ∷ more)) (commits m number id batch rows) m)
+    at (inl have) = rw have (good_commit m number id batch rows (sequences_are rows (entry ∷ more) have ∙ ap seqs is) g)
+    at (inr differ) = rw differ g
+
+good_commit_at : (m : Machine) (number : ℕ) (id : StreamId) (batch : ℕ) (rows : List RawRow) (found : Option ConfStream) → IsGood m → IsGood (commits_at m number id batch rows found)
+good_commit_at m number id batch rows None g = g
+good_commit_at m number id batch rows (Some stream) g = at (same_id stream.id id)
+  where
+    at : (b : Bool) → IsGood (cond b (commits_batch m number id batch rows (in_batch id batch m.placed)) m)
+    at true = good_commit_batch m number id batch rows (in_batch id batch m.placed) refl g
     at false = g
 
 -- Releasing
@@ -455,19 +464,19 @@ good_hand_out : (m : Machine) (id : StreamId) (count batch : ℕ) (others : List
 good_hand_out m id count batch (other ∷ others) g = g
 good_hand_out m id count batch [] g = good_move_first m (is_sealed_of id) (Out batch) count (λ placed e. sealed_is_not_done placed.place (and_parts _ _ e).0) g
 
-pub good_step : (streams : List ConfStream) (row : ℕ → Entry → RawRow) (m : Machine) (step : Step) → KeepsSequences row → IsGood m → IsGood (happens streams row m step)
-good_step streams row m (Accept line) keeps g = good_accept m line g
-good_step streams row m End keeps g = good_quiet m (m.acts ++ Ends ∷ []) (end_quiet m.acts) g
-good_step streams row m (Seal id count) keeps g = good_move_first m (is_queued_of id) Sealed count (λ placed e. queued_is_not_done placed.place (and_parts _ _ e).0) g
-good_step streams row m (HandOut id count batch) keeps g = good_hand_out m id count batch _ g
-good_step streams row m (Commit number id batch) keeps g = good_commit_at row m number id batch _ keeps g
-good_step streams row m (TakeBack id batch) keeps g = good_move m (is_in_batch id batch) Sealed (λ placed e. out_is_not_done batch placed.place (and_parts _ _ e).0) g
-good_step streams row m Release keeps g = good_release m _ refl g
-good_step streams row m Turn keeps g = good_quiet m (m.acts ++ Turns ∷ []) (turn_quiet m.acts) g
+pub good_step : (streams : List ConfStream) (m : Machine) (step : Step) → IsGood m → IsGood (happens streams m step)
+good_step streams m (Accept line) g = good_accept m line g
+good_step streams m End g = good_quiet m (m.acts ++ Ends ∷ []) (end_quiet m.acts) g
+good_step streams m (Seal id count) g = good_move_first m (is_queued_of id) Sealed count (λ placed e. queued_is_not_done placed.place (and_parts _ _ e).0) g
+good_step streams m (HandOut id count batch) g = good_hand_out m id count batch _ g
+good_step streams m (Commit number id batch rows) g = good_commit_at m number id batch rows _ g
+good_step streams m (TakeBack id batch) g = good_move m (is_in_batch id batch) Sealed (λ placed e. out_is_not_done batch placed.place (and_parts _ _ e).0) g
+good_step streams m Release g = good_release m _ refl g
+good_step streams m Turn g = good_quiet m (m.acts ++ Turns ∷ []) (turn_quiet m.acts) g
 
-pub good_run : (streams : List ConfStream) (row : ℕ → Entry → RawRow) (steps : List Step) (m : Machine) → KeepsSequences row → IsGood m → IsGood (run streams row steps m)
-good_run streams row [] m keeps g = g
-good_run streams row (step ∷ steps) m keeps g = good_run streams row steps (happens streams row m step) keeps (good_step streams row m step keeps g)
+pub good_run : (streams : List ConfStream) (steps : List Step) (m : Machine) → IsGood m → IsGood (run streams steps m)
+good_run streams [] m g = g
+good_run streams (step ∷ steps) m g = good_run streams steps (happens streams m step) (good_step streams m step g)
 
 pub good_start : IsGood start
 good_start = record { entries_are = refl; marked = tt; below = tt; lanes = λ lane. record { splits = refl }; rising = ([], refl) }

@@ -7,11 +7,10 @@ use Rattle.std.proofs.lemmas.List.Elements.{filter-append}
 use Rattle.std.proofs.lemmas.Bool.{cases_Bool, false≢true, and_parts, and_left, and_right, and_from, lt-ltb}
 use Rattle.basics.specs.declared.stream.StreamId.{StreamId}
 use Rattle.outside.specs.Tables.{same_id}
-use Rattle.outside.specs.declared.event.RawRow.{RawRow}
 use Rattle.outside.proofs.TableLaws.{id_own, id_is}
 use Rattle.catalog.specs.declared.stream.ConfStream.{ConfStream}
 use Rattle.load_rules.specs.Taken.{Entry, entries_from, LaneState}
-use Rattle.load_rules.specs.Machine.{Place, Queued, Sealed, Out, Done, Placed, Machine, Step, Accept, End, Seal, HandOut, Commit, TakeBack, Release, Turn, start, queue, is_out, is_sealed, is_queued, is_of, move, move_first, is_in_batch, in_batch, is_queued_of, is_sealed_of, is_releasable, commits, commits_at, releases, hands_out, happens, run, is_unsealed, flags, IsTail}
+use Rattle.load_rules.specs.Machine.{Place, Queued, Sealed, Out, Done, Placed, Machine, Step, Accept, End, Seal, HandOut, Commit, TakeBack, Release, Turn, start, queue, is_out, is_sealed, is_queued, is_of, move, move_first, is_in_batch, in_batch, is_queued_of, is_sealed_of, is_releasable, have_sequences, commits, commits_batch, commits_at, releases, hands_out, happens, run, is_unsealed, flags, IsTail}
 use Rattle.load_rules.specs.Laws.{SealedInFront}
 
 tail_append : (xs ys : List Bool) → IsTail xs → AllByRecursion (λ x. x ≡ true) ys → IsTail (xs ++ ys)
@@ -111,43 +110,47 @@ apart_of own id it other is = at (cases_Bool (is_of id it))
     at (inl both) = absurd (false≢true (sym other ∙ (ap (same_id own) (id_is id it.entry.content.id both ∙ sym (id_is own it.entry.content.id is)) ∙ id_own own)))
     at (inr apart) = apart
 
-tails_step : (streams : List ConfStream) (row : ℕ → Entry → RawRow) (m : Machine) (step : Step) (id : StreamId) → ((s : StreamId) → IsTail (flags s m.placed)) → IsTail (flags id (happens streams row m step).placed)
-tails_step streams row m (Accept line) id tails = tails_accept m.placed (entries_from (length m.placed) (line ∷ [])) id (tails id)
-tails_step streams row m End id tails = tails id
-tails_step streams row m (Seal own count) id tails = at (cases_Bool (same_id own id))
+tails_step : (streams : List ConfStream) (m : Machine) (step : Step) (id : StreamId) → ((s : StreamId) → IsTail (flags s m.placed)) → IsTail (flags id (happens streams m step).placed)
+tails_step streams m (Accept line) id tails = tails_accept m.placed (entries_from (length m.placed) (line ∷ [])) id (tails id)
+tails_step streams m End id tails = tails id
+tails_step streams m (Seal own count) id tails = at (cases_Bool (same_id own id))
   where
     at : (same_id own id ≡ true) ⊎ (same_id own id ≡ false) → IsTail (flags id (move_first (is_queued_of own) Sealed count m.placed))
     at (inl same) = subst (λ it. IsTail (flags id (move_first (is_queued_of it) Sealed count m.placed))) (sym (id_is own id same)) (seal_tail id count m.placed (tails id))
     at (inr other) = subst IsTail (sym (flags_first (is_queued_of own) Sealed count m.placed id (λ it e. inl (apart_of own id it other (and_parts (is_queued it.place) (is_of own it) e).1)))) (tails id)
-tails_step streams row m (HandOut own count batch) id tails = at (filter (λ placed. is_out batch placed.place) m.placed)
+tails_step streams m (HandOut own count batch) id tails = at (filter (λ placed. is_out batch placed.place) m.placed)
   where
     at : (others : List Placed) → IsTail (flags id (hands_out m own count batch others).placed)
     at (other ∷ others) = tails id
     at [] = subst IsTail (sym (flags_first (is_sealed_of own) (Out batch) count m.placed id (λ it e. inr (refl, sealed_sealed it.place (and_parts (is_sealed it.place) (is_of own it) e).0)))) (tails id)
-tails_step streams row m (Commit number own batch) id tails = at (slice_get streams number)
+tails_step streams m (Commit number own batch rows) id tails = at (slice_get streams number)
   where
-    these : (list : List Entry) → IsTail (flags id (commits row m number own batch list).placed)
-    these [] = tails id
-    these (entry ∷ more) = subst IsTail (sym (flags_kept (is_in_batch own batch) Done m.placed id refl (λ it e. out_sealed batch it.place (and_parts (is_out batch it.place) (is_of own it) e).0))) (tails id)
+    kept : (b : Bool) → IsTail (flags id (cond b (commits m number own batch rows) m).placed)
+    kept true = subst IsTail (sym (flags_kept (is_in_batch own batch) Done m.placed id refl (λ it e. out_sealed batch it.place (and_parts (is_out batch it.place) (is_of own it) e).0))) (tails id)
+    kept false = tails id
 
-    of_stream : (b : Bool) → IsTail (flags id (cond b (commits row m number own batch (in_batch own batch m.placed)) m).placed)
+    these : (list : List Entry) → IsTail (flags id (commits_batch m number own batch rows list).placed)
+    these [] = tails id
+    these (entry ∷ more) = kept (have_sequences rows (entry ∷ more))
+
+    of_stream : (b : Bool) → IsTail (flags id (cond b (commits_batch m number own batch rows (in_batch own batch m.placed)) m).placed)
     of_stream true = these (in_batch own batch m.placed)
     of_stream false = tails id
 
-    at : (found : Option ConfStream) → IsTail (flags id (commits_at row m number own batch found).placed)
+    at : (found : Option ConfStream) → IsTail (flags id (commits_at m number own batch rows found).placed)
     at None = tails id
     at (Some stream) = of_stream (same_id stream.id own)
-tails_step streams row m (TakeBack own batch) id tails = subst IsTail (sym (flags_kept (is_in_batch own batch) Sealed m.placed id refl (λ it e. out_sealed batch it.place (and_parts (is_out batch it.place) (is_of own it) e).0))) (tails id)
-tails_step streams row m Release id tails = at (find (is_releasable m.acts) m.waiting)
+tails_step streams m (TakeBack own batch) id tails = subst IsTail (sym (flags_kept (is_in_batch own batch) Sealed m.placed id refl (λ it e. out_sealed batch it.place (and_parts (is_out batch it.place) (is_of own it) e).0))) (tails id)
+tails_step streams m Release id tails = at (find (is_releasable m.acts) m.waiting)
   where
     at : (found : Option LaneState) → IsTail (flags id (releases m found).placed)
     at None = tails id
     at (Some state) = tails id
-tails_step streams row m Turn id tails = tails id
+tails_step streams m Turn id tails = tails id
 
-tails_run : (streams : List ConfStream) (row : ℕ → Entry → RawRow) (steps : List Step) (m : Machine) (id : StreamId) → ((s : StreamId) → IsTail (flags s m.placed)) → IsTail (flags id (run streams row steps m).placed)
-tails_run streams row [] m id tails = tails id
-tails_run streams row (step ∷ steps) m id tails = tails_run streams row steps (happens streams row m step) id (λ s. tails_step streams row m step s tails)
+tails_run : (streams : List ConfStream) (steps : List Step) (m : Machine) (id : StreamId) → ((s : StreamId) → IsTail (flags s m.placed)) → IsTail (flags id (run streams steps m).placed)
+tails_run streams [] m id tails = tails id
+tails_run streams (step ∷ steps) m id tails = tails_run streams steps (happens streams m step) id (λ s. tails_step streams m step s tails)
 
 pub sealed_in_front : SealedInFront
-sealed_in_front streams row steps id = tails_run streams row steps start id (λ s. tt)
+sealed_in_front streams steps id = tails_run streams steps start id (λ s. tt)

@@ -1,9 +1,9 @@
 -- The attempts of a trace, what a worker passes on in one, and which state a line of the destination takes.
-use Rattle.std.specs.Prelude.{◌≡◌, ◌⊎◌, ℕ, List, [], ◌∷◌, ◌++◌, filter, filter_map, fold, Option, None, Some}
+use Rattle.std.specs.Prelude.{◌≡◌, ◌⊎◌, ℕ, List, [], ◌∷◌, ◌++◌, filter, filter_map, fold}
 use Rattle.std.specs.List.{AllByRecursion}
 use Rattle.basics.specs.declared.stream.StreamId.{StreamId}
 use Rattle.outside.specs.declared.event.Event.{Event}
-use Rattle.outside.specs.declared.event.Event.TheVariants.{Started, ReadLine, Given, Got, Emitted}
+use Rattle.outside.specs.declared.event.Event.TheVariants.{Started, Given, Got}
 use Rattle.outside.specs.declared.event.AttemptPlan.{AttemptPlan}
 use Rattle.outside.specs.Event.{emitted_in, read_in, given_in, got_in}
 use Rattle.airbyte_message.specs.Lanes.{Lane}

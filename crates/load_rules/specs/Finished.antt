@@ -1,5 +1,5 @@
 -- A finished load: all that was taken is committed, echoed, merged and shown.
-use Rattle.std.specs.Prelude.{◌≡◌, ℕ, List, [], ◌∷◌, fold, Bool, true, false, slice_get, if◌then◌else◌, Contains, Option, None, Some, IsSome}
+use Rattle.std.specs.Prelude.{◌≡◌, ℕ, ◌<◌, List, [], ◌∷◌, fold, Bool, true, false, slice_get, if◌then◌else◌, Contains, Option, None, Some, IsSome}
 use Rattle.std.specs.List.{AllByRecursion}
 use Rattle.basics.specs.declared.stream.StreamId.{StreamId}
 use Rattle.outside.specs.Tables.{same_id, tables_of, plan_at}
@@ -33,13 +33,16 @@ status_after id last (Some status) = if same_id status.id id then Some status.st
 abbrev pub last_status : StreamId → List Line → Option StreamStatus
 last_status id lines = fold (λ last line. status_after id last (status_in line.found)) None lines
 
--- Of a stream of the catalog: it stands at its number in the load's plan; its source said last that it is complete; where it is
--- deduplicated, nothing is left to merge on the load's side; and it is not hidden, or no more.
-pub record StreamIsFinished (tables : Tables) (lines : List Line) (number : ℕ) (stream : ConfStream) : Type 0 where
+-- its source said last, in the lines that the load took, that a stream is complete
+abbrev pub IsComplete : Reading → Load → ConfStream → Type 0
+IsComplete read load stream = last_status stream.id (lines_read read (tooks load.events)) ≡ Some Complete
+
+-- Of a stream of the catalog: it stands at its number in the load's plan; where it is deduplicated, nothing is left to merge on
+-- the load's side; and it is not hidden, or no more.
+pub record StreamIsDone (tables : Tables) (number : ℕ) (stream : ConfStream) : Type 0 where
   pub plan : StreamPlan
   pub planned : plan_at tables number ≡ Some plan
   pub same : plan.id ≡ stream.id
-  pub complete : last_status stream.id lines ≡ Some Complete
   pub merged : is_dedup stream.dest ≡ true → unmerged_at tables number ≡ []
   pub shown : plan.hidden ≡ false
 
@@ -52,9 +55,8 @@ pub record EchoesAll (acts : List Act) : Type 0 where
   pub lanes : AllByRecursion (λ line. HasLane (state_in line.found)) (taken acts)
   pub echoed_are : (lane : Lane) → echoed lane acts ≡ of_lane lane (states (taken acts))
 
--- the last load of the trace is finished
-pub record IsFinished (streams : List ConfStream) (read : Reading) (trace : List Event) : Type 0 where
-  pub load : Load
+-- This is the last load of the trace; its input has ended, and all that it took is committed and echoed.
+pub record LoadIsDone (read : Reading) (trace : List Event) (load : Load) : Type 0 where
   pub older : List Load
   pub last : loads trace ≡ load ∷ older
   pub ended : Contains load.events TookEnd
@@ -62,4 +64,20 @@ pub record IsFinished (streams : List ConfStream) (read : Reading) (trace : List
   pub acts : List Act
   pub are : AreActs read acts load.events
   pub echoes : EchoesAll acts
-  pub each : (number : ℕ) (stream : ConfStream) → slice_get streams number ≡ Some stream → StreamIsFinished (tables_of trace) (lines_read read (tooks load.events)) number stream
+
+-- The last load of the trace is finished: all that it took is done, and each stream of the catalog is complete, merged and shown.
+pub record IsFinished (streams : List ConfStream) (read : Reading) (trace : List Event) : Type 0 where
+  pub load : Load
+  pub done : LoadIsDone read trace load
+  pub complete : (number : ℕ) (stream : ConfStream) → slice_get streams number ≡ Some stream → IsComplete read load stream
+  pub each : (number : ℕ) (stream : ConfStream) → slice_get streams number ≡ Some stream → StreamIsDone (tables_of trace) number stream
+
+-- It is finished but for the streams that are not complete, of which nothing more is asked; and this number is that of the first.
+pub record IsIncomplete (streams : List ConfStream) (read : Reading) (trace : List Event) (number : ℕ) : Type 0 where
+  pub load : Load
+  pub done : LoadIsDone read trace load
+  pub each : (other : ℕ) (stream : ConfStream) → slice_get streams other ≡ Some stream → IsComplete read load stream → StreamIsDone (tables_of trace) other stream
+  pub stream : ConfStream
+  pub configured : slice_get streams number ≡ Some stream
+  pub incomplete : ¬ IsComplete read load stream
+  pub before : (other : ℕ) (stream : ConfStream) → other < number → slice_get streams other ≡ Some stream → IsComplete read load stream

@@ -1,5 +1,5 @@
 -- What holds of each load, of each run of the machine, and of the attempts of a trace.
-use Rattle.std.specs.Prelude.{◌≡◌, ℕ, ◌<◌, ◌^◌, List, map, [], ◌∷◌, ◌++◌, length, Bool, not, true, false, Contains, ◌↔◌}
+use Rattle.std.specs.Prelude.{◌≡◌, ℕ, ◌<◌, ◌^◌, List, map, filter, [], ◌∷◌, ◌++◌, length, slice_get, Some, Bool, not, true, false, Contains, ◌↔◌}
 use Rattle.std.specs.List.{AllByRecursion, take_while}
 use Rattle.basics.specs.declared.stream.StreamId.{StreamId}
 use Rattle.outside.specs.declared.event.Event.{Event}
@@ -15,28 +15,59 @@ use Rattle.load_rules.specs.Lines.{Reading, IsReading}
 use Rattle.load_rules.specs.Taken.{Entry, entries, covers, is_in, of_lane, states}
 use Rattle.load_rules.specs.Loads.{Opening, Load, loads, tooks, held_in}
 use Rattle.load_rules.specs.Rows.{IsRowOf}
-use Rattle.load_rules.specs.Acts.{Act, AreActs, Commits, taken, committed, echoed}
-use Rattle.load_rules.specs.SafeDest.{Fits, IsSafeLoad, IsSafeDest, uncommitted}
+use Rattle.load_rules.specs.Acts.{Act, AreActs, Commits, Echoes, taken, committed, echoed}
+use Rattle.load_rules.specs.SafeDest.{EchoFits, Fits, IsSafeLoad, IsSafeDest, uncommitted}
+use Rattle.load_rules.specs.Finished.{IsFinished, IsIncomplete}
 use Rattle.load_rules.specs.Stores.{CommittedFits, IsStoreRun}
 use Rattle.load_rules.specs.Attempts.{Attempt, attempts, gives, gots, emits}
-use Rattle.load_rules.specs.Honest.{IsHonestAttempt, AddsHonestly}
+use Rattle.load_rules.specs.Honest.{IsHonestAttempt, IsHonest, AddsHonestly}
 use Rattle.load_rules.specs.Engine.{OpensFirst, IsEngineRun}
-use Rattle.load_rules.specs.Machine.{Step, start, run, accepted, KeepsSequences, AreRows, IsDrained, flags, IsTail}
+use Rattle.load_rules.specs.Machine.{Machine, Step, start, run, accepted, CommitsOwnRows, BringsOwnRows, IsDrained, flags, IsTail}
 
 -- The machine
+
+-- A commit behind these acts is of records of the stream with its number that are uncommitted, in order, by their sequences alone.
+pub record CommitsHeld (streams : List ConfStream) (before : List Act) (number : ℕ) (rows : List RawRow) : Type 0 where
+  pub stream : ConfStream
+  pub configured : slice_get streams number ≡ Some stream
+  pub chosen : Entry → Bool
+  pub own : AllByRecursion (λ entry. entry.content.id ≡ stream.id) (filter chosen (uncommitted before))
+  pub are : map (λ row. row.seq) rows ≡ map (λ entry. entry.seq) (filter chosen (uncommitted before))
+
+-- an act may come behind these of its load, whatever else than their sequences the rows of a commit have
+abbrev pub FitsInOrder : List ConfStream → List Act → Act → Type 0
+FitsInOrder streams before (Commits number rows) = CommitsHeld streams before number rows
+FitsInOrder streams before (Echoes state) = EchoFits before state
+FitsInOrder streams before act = Unit {0}
+
+-- Every run from the empty state, whatever its rows: each emitted state is the next of its lane, with its count, and everything
+-- before it was committed earlier; each commit is of records of its stream that were accepted earlier, and none twice.
+abbrev pub RunsAreOrdered : Type 0
+RunsAreOrdered = (streams : List ConfStream) (steps : List Step) → EachFits (FitsInOrder streams) [] (run streams steps start).acts
 
 -- Every run from the empty state: each emitted state is the next of its lane, with its count, and everything before it was
 -- committed earlier; each commit is of rows of records that were accepted earlier, and none twice.
 abbrev pub RunsAreSafe : Type 0
 RunsAreSafe =
-    (streams : List ConfStream) (opening : Opening) (row : ℕ → Entry → RawRow) (steps : List Step)
-    → KeepsSequences row → AreRows streams opening row (run streams row steps start).acts → EachFits (Fits streams opening) [] (run streams row steps start).acts
+    (streams : List ConfStream) (opening : Opening) (steps : List Step)
+    → CommitsOwnRows streams opening (run streams steps start).acts → EachFits (Fits streams opening) [] (run streams steps start).acts
+
+-- A run goes on with further steps as one run.
+abbrev pub RunsGrow : Type 0
+RunsGrow = (streams : List ConfStream) (steps more : List Step) (m : Machine) → run streams (steps ++ more) m ≡ run streams more (run streams steps m)
+
+-- A safe run stays safe by one step more, where what that commits are the rows of the records in its batch.
+abbrev pub RunsStaySafe : Type 0
+RunsStaySafe =
+    (streams : List ConfStream) (opening : Opening) (steps : List Step) (step : Step)
+    → EachFits (Fits streams opening) [] (run streams steps start).acts → BringsOwnRows streams opening (run streams steps start) step
+    → EachFits (Fits streams opening) [] (run streams (steps ++ step ∷ []) start).acts
 
 -- Where nothing is queued or handed out and no state is releasable, no state waits.
 abbrev pub NoStateIsLeft : Type 0
 NoStateIsLeft =
-    (streams : List ConfStream) (row : ℕ → Entry → RawRow) (steps : List Step)
-    → KeepsSequences row → IsDrained (run streams row steps start) → (run streams row steps start).waiting ≡ []
+    (streams : List ConfStream) (steps : List Step)
+    → IsDrained (run streams steps start) → (run streams steps start).waiting ≡ []
 
 -- all that was taken is committed and echoed
 pub record IsDone (acts : List Act) : Type 0 where
@@ -47,8 +78,8 @@ pub record IsDone (acts : List Act) : Type 0 where
 -- states are echoed, in their order.
 abbrev pub DrainedIsDone : Type 0
 DrainedIsDone =
-    (streams : List ConfStream) (row : ℕ → Entry → RawRow) (steps : List Step)
-    → KeepsSequences row → IsDrained (run streams row steps start) → IsDone (run streams row steps start).acts
+    (streams : List ConfStream) (steps : List Step)
+    → IsDrained (run streams steps start) → IsDone (run streams steps start).acts
 
 pub record EndAlike (first second : List Act) : Type 0 where
   pub committed_alike : (seq : ℕ) → is_in seq (committed first) ≡ is_in seq (committed second)
@@ -58,14 +89,13 @@ pub record EndAlike (first second : List Act) : Type 0 where
 -- order their other steps took, and whatever else than their sequences the rows of each have.
 abbrev pub OrderIsFree : Type 0
 OrderIsFree =
-    (streams : List ConfStream) (row other : ℕ → Entry → RawRow) (first second : List Step)
-    → KeepsSequences row → KeepsSequences other → accepted first ≡ accepted second
-    → IsDrained (run streams row first start) → IsDrained (run streams other second start)
-    → EndAlike (run streams row first start).acts (run streams other second start).acts
+    (streams : List ConfStream) (first second : List Step)
+    → accepted first ≡ accepted second → IsDrained (run streams first start) → IsDrained (run streams second start)
+    → EndAlike (run streams first start).acts (run streams second start).acts
 
 -- sealed records of a stream stand in front of unsealed ones, whatever was handed out and taken back
 abbrev pub SealedInFront : Type 0
-SealedInFront = (streams : List ConfStream) (row : ℕ → Entry → RawRow) (steps : List Step) (id : StreamId) → IsTail (flags id (run streams row steps start).placed)
+SealedInFront = (streams : List ConfStream) (steps : List Step) (id : StreamId) → IsTail (flags id (run streams steps start).placed)
 
 -- Loads
 
@@ -136,6 +166,10 @@ SafeCommitsFit =
     (streams : List ConfStream) (read : Reading) (before : List Event) (number : ℕ) (rows : List RawRow)
     → IsSafeLast streams read (loads (before ++ event.Committed number rows ∷ [])) → CommittedFits before rows
 
+-- no load is finished, and incomplete as well
+abbrev pub FinishedIsComplete : Type 0
+FinishedIsComplete = (streams : List ConfStream) (read : Reading) (trace : List Event) (number : ℕ) → IsFinished streams read trace → ¬ IsIncomplete streams read trace number
+
 -- Attempts
 
 -- Lines through two pipes, whole: what the destination takes was given, and what comes back was emitted, in order.
@@ -144,12 +178,16 @@ PipeFits before (event.Took text) = IsPrefix (tooks before ++ text ∷ []) (give
 PipeFits before (event.Got text) = IsPrefix (gots before ++ text ∷ []) (emits before)
 PipeFits before event = Unit {0}
 
+-- an attempt whose lines go through two pipes, whole; the lines that it takes are fewer than a count can tell
+pub record HasWholeLines (attempt : Attempt) : Type 0 where
+  pub few : length (tooks attempt.events) < 2 ^ 64
+  pub pipes : EachFits PipeFits [] attempt.events
+
 -- whole lines through two pipes to a safe destination make an honest attempt
 abbrev pub PipesAreHonest : Type 0
 PipesAreHonest =
     (streams : List ConfStream) (read : Reading) (attempt : Attempt)
-    → IsReading read attempt.events → length (tooks attempt.events) < 2 ^ 64
-    → IsSafeDest streams read attempt.events → EachFits OpensFirst [] attempt.events → EachFits PipeFits [] attempt.events
+    → IsReading read attempt.events → IsSafeDest streams read attempt.events → EachFits OpensFirst [] attempt.events → HasWholeLines attempt
     → IsHonestAttempt streams read attempt
 
 -- An attempt of a run of the engine, by itself: a safe destination that opens one load, and does all else behind it.
@@ -163,6 +201,12 @@ AttemptsAreSafe = (streams : List ConfStream) (read : Reading) (trace : List Eve
 abbrev pub is_started : Event → Bool
 is_started (event.Started plan) = true
 is_started event = false
+
+-- The attempts of a run of the engine, with whole lines through two pipes in each, are honest.
+abbrev pub RunsAreHonest : Type 0
+RunsAreHonest =
+    (streams : List ConfStream) (read : Reading) (trace : List Event)
+    → IsReading read trace → IsEngineRun streams read trace → AllByRecursion HasWholeLines (attempts trace) → IsHonest streams read trace
 
 -- Where each attempt that the added events begin is honest, and nothing comes back before the first of them, the events add
 -- honestly, whatever was before.

@@ -23,7 +23,9 @@ pub record Line : Type 0 where
   pub found : Option Message
 
 -- What texts are read as. All that is said of lines here is said of a reading, and a program promises it for every reading that
--- is right of the lines of its trace. So nothing is owed of a line that was taken and could not be read for want of memory.
+-- is right of the lines of its trace. So nothing is owed of a line that was taken and could not be read for want of memory. A text
+-- is one message or none, so two right readings agree on the lines of a trace. That there is one is said nowhere: what a caller is to
+-- have without one is promised of the texts.
 abbrev pub Reading : Type 0
 Reading = List ℕ → Option Message
 

@@ -1,9 +1,9 @@
 -- The loads of a trace: each is the part from one Opened to the event before the next.
-use Rattle.std.specs.Prelude.{ℕ, List, [], ◌∷◌, ◌++◌, map, fold, filter, filter_map, flat_map, Bool, true, false, not, Option, None, Some}
+use Rattle.std.specs.Prelude.{ℕ, List, [], ◌∷◌, ◌++◌, map, fold, filter, filter_map, flat_map, not}
 use Rattle.std.specs.List.{take_while}
 use Rattle.outside.specs.Event.{is_links, took_in}
 use Rattle.outside.specs.declared.event.Event.{Event}
-use Rattle.outside.specs.declared.event.Event.TheVariants.{Opened, Took, Committed}
+use Rattle.outside.specs.declared.event.Event.TheVariants.{Opened, Committed}
 use Rattle.outside.specs.declared.event.RawRow.{RawRow}
 use Rattle.outside.specs.declared.event.StreamPlan.{StreamPlan}
 use Rattle.outside.specs.Dock.{is_opening}

@@ -1,16 +1,19 @@
 -- The machine behind a load, which may do its steps in any order and with any choice. It keeps a place for each record; what is
--- committed and what was echoed is read off the load.
+-- committed and what was echoed is read off the load. A commit brings its rows with it: they have the sequences of their records, and
+-- are free in all else.
 use Rattle.std.specs.Prelude.{◌≡◌, ℕ, ◌-◌, ◌==◌, List, [], ◌∷◌, ◌++◌, map, filter, filter_map, find, length, slice_get, Bool, true, false, ◌&&◌, if◌then◌else◌, nat_lt, Option, None, Some, Contains}
 use Rattle.std.specs.List.{AllByRecursion, list_all}
 use Rattle.basics.specs.declared.stream.StreamId.{StreamId}
 use Rattle.outside.specs.Tables.{same_id}
 use Rattle.outside.specs.declared.event.RawRow.{RawRow}
 use Rattle.catalog.specs.declared.stream.ConfStream.{ConfStream}
+use Rattle.load_rules.specs.Prefixes.{EachFits}
 use Rattle.load_rules.specs.Lines.{Line, state_in}
 use Rattle.load_rules.specs.Taken.{Entry, entries, entries_from, LaneState, state_of, covered, is_in}
 use Rattle.load_rules.specs.Loads.{Opening}
 use Rattle.load_rules.specs.Rows.{IsRowOf}
 use Rattle.load_rules.specs.Acts.{Act, Takes, Ends, Commits, Echoes, Turns, taken, committed}
+use Rattle.load_rules.specs.SafeDest.{AreRowsOf}
 
 -- where a record is: in its stream's queue, sealed there or not, in a batch that is handed out, or committed
 pub data Place : Type 0 where
@@ -40,7 +43,8 @@ pub data Step : Type 0 where
   End : Step
   Seal : (id : StreamId) (count : ℕ) → Step
   HandOut : (id : StreamId) (count batch : ℕ) → Step
-  Commit : (number : ℕ) (id : StreamId) (batch : ℕ) → Step
+  -- the records of a batch are committed by these rows
+  Commit : (number : ℕ) (id : StreamId) (batch : ℕ) (rows : List RawRow) → Step
   TakeBack : (id : StreamId) (batch : ℕ) → Step
   Release : Step
   -- a merge, or a stream that is shown
@@ -120,14 +124,24 @@ accepts m line = record {
   waiting = m.waiting ++ state_of (taken m.acts) (state_in line.found);
 }
 
--- a batch that is handed out is committed, by the rows of its records
-abbrev pub commits : (ℕ → Entry → RawRow) → Machine → ℕ → StreamId → ℕ → List Entry → Machine
-commits row m number id batch [] = m
-commits row m number id batch (entry ∷ more) = record {
-  acts = m.acts ++ Commits number (map (row number) (entry ∷ more)) ∷ [];
+-- the rows have the sequences of these records, one for one
+abbrev pub have_sequences : List RawRow → List Entry → Bool
+have_sequences [] [] = true
+have_sequences (row ∷ rows) (entry ∷ more) = row.seq == entry.seq && have_sequences rows more
+have_sequences [] (entry ∷ more) = false
+have_sequences (row ∷ rows) [] = false
+
+abbrev pub commits : Machine → ℕ → StreamId → ℕ → List RawRow → Machine
+commits m number id batch rows = record {
+  acts = m.acts ++ Commits number rows ∷ [];
   placed = move (is_in_batch id batch) Done m.placed;
   waiting = m.waiting;
 }
+
+-- a batch that is handed out, with these records, is committed by rows that have their sequences
+abbrev pub commits_batch : Machine → ℕ → StreamId → ℕ → List RawRow → List Entry → Machine
+commits_batch m number id batch rows [] = m
+commits_batch m number id batch rows (entry ∷ more) = if have_sequences rows (entry ∷ more) then commits m number id batch rows else m
 
 abbrev pub releases : Machine → Option LaneState → Machine
 releases m None = m
@@ -143,25 +157,25 @@ hands_out m id count batch [] = record m { placed = move_first (is_sealed_of id)
 hands_out m id count batch (other ∷ others) = m
 
 -- a stream's number is its place in the catalog
-abbrev pub commits_at : (ℕ → Entry → RawRow) → Machine → ℕ → StreamId → ℕ → Option ConfStream → Machine
-commits_at row m number id batch None = m
-commits_at row m number id batch (Some stream) = if same_id stream.id id then commits row m number id batch (in_batch id batch m.placed) else m
+abbrev pub commits_at : Machine → ℕ → StreamId → ℕ → List RawRow → Option ConfStream → Machine
+commits_at m number id batch rows None = m
+commits_at m number id batch rows (Some stream) = if same_id stream.id id then commits_batch m number id batch rows (in_batch id batch m.placed) else m
 
 -- A step that cannot be done changes nothing.
-abbrev pub happens : List ConfStream → (ℕ → Entry → RawRow) → Machine → Step → Machine
-happens streams row m (Accept line) = accepts m line
-happens streams row m End = record m { acts = m.acts ++ Ends ∷ [] }
-happens streams row m (Seal id count) = record m { placed = move_first (is_queued_of id) Sealed count m.placed }
-happens streams row m (HandOut id count batch) = hands_out m id count batch (filter (λ placed. is_out batch placed.place) m.placed)
-happens streams row m (Commit number id batch) = commits_at row m number id batch (slice_get streams number)
-happens streams row m (TakeBack id batch) = record m { placed = move (is_in_batch id batch) Sealed m.placed }
-happens streams row m Release = releases m (find (is_releasable m.acts) m.waiting)
-happens streams row m Turn = record m { acts = m.acts ++ Turns ∷ [] }
+abbrev pub happens : List ConfStream → Machine → Step → Machine
+happens streams m (Accept line) = accepts m line
+happens streams m End = record m { acts = m.acts ++ Ends ∷ [] }
+happens streams m (Seal id count) = record m { placed = move_first (is_queued_of id) Sealed count m.placed }
+happens streams m (HandOut id count batch) = hands_out m id count batch (filter (λ placed. is_out batch placed.place) m.placed)
+happens streams m (Commit number id batch rows) = commits_at m number id batch rows (slice_get streams number)
+happens streams m (TakeBack id batch) = record m { placed = move (is_in_batch id batch) Sealed m.placed }
+happens streams m Release = releases m (find (is_releasable m.acts) m.waiting)
+happens streams m Turn = record m { acts = m.acts ++ Turns ∷ [] }
 
 -- any list of steps is a run
-abbrev pub run : List ConfStream → (ℕ → Entry → RawRow) → List Step → Machine → Machine
-run streams row [] m = m
-run streams row (step ∷ steps) m = run streams row steps (happens streams row m step)
+abbrev pub run : List ConfStream → List Step → Machine → Machine
+run streams [] m = m
+run streams (step ∷ steps) m = run streams steps (happens streams m step)
 
 abbrev pub accepted_in : Step → Option Line
 accepted_in (Accept line) = Some line
@@ -171,15 +185,21 @@ accepted_in step = None
 abbrev pub accepted : List Step → List Line
 accepted steps = filter_map accepted_in steps
 
--- a row has the sequence of its record
-abbrev pub KeepsSequences : (ℕ → Entry → RawRow) → Type 0
-KeepsSequences row = (number : ℕ) (entry : Entry) → (row number entry).seq ≡ entry.seq
+-- a commit behind these acts is of the rows of its records
+abbrev pub RowsFit : List ConfStream → Opening → List Act → Act → Type 0
+RowsFit streams opening before (Commits number rows) =
+    (entry : Entry) (row : RawRow) → Contains (entries (taken before)) entry → Contains rows row → row.seq ≡ entry.seq → IsRowOf streams opening number entry row
+RowsFit streams opening before act = Unit {0}
 
--- These are the rows of the records that were committed, by the numbers of their commits. Of a record that is queued or handed out
--- no row is asked: it may have none.
-abbrev pub AreRows : List ConfStream → Opening → (ℕ → Entry → RawRow) → List Act → Type 0
-AreRows streams opening row acts =
-    (number : ℕ) (rows : List RawRow) → Contains acts (Commits number rows) → (entry : Entry) → Contains (entries (taken acts)) entry → is_in entry.seq (map (λ one. one.seq) rows) ≡ true → IsRowOf streams opening number entry (row number entry)
+-- Each commit among these acts is of the rows of its records. Of a record that is queued or handed out no row is asked: it may have
+-- none.
+abbrev pub CommitsOwnRows : List ConfStream → Opening → List Act → Type 0
+CommitsOwnRows streams opening acts = EachFits (RowsFit streams opening) [] acts
+
+-- where the next step commits a batch, it is by the rows of its records, in order
+abbrev pub BringsOwnRows : List ConfStream → Opening → Machine → Step → Type 0
+BringsOwnRows streams opening m (Commit number id batch rows) = AreRowsOf streams opening number (in_batch id batch m.placed) rows
+BringsOwnRows streams opening m step = Unit {0}
 
 -- nothing is queued or handed out, and no state is releasable
 pub record IsDrained (m : Machine) : Type 0 where

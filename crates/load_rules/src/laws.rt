@@ -1,9 +1,24 @@
 // The laws of loads, each as the contract of a function that does nothing.
-ghost use Rattle.load_rules.specs.Laws.{AttemptsAreSafe, DrainedIsDone, FrontsAreRuns, FrontsAreSafe, HeldAreUncommitted, HonestAttemptsAdd, LanesCover, NoStateIsLeft, OpeningIsSafe, OrderIsFree, PipesAreHonest, PrefixesFit, RowsAreOwn, RunsAreSafe, SafeCommitsFit, SealedInFront, StaysSafe, StoreMergesFit};
+ghost use Rattle.load_rules.specs.Laws.{AttemptsAreSafe, DrainedIsDone, FinishedIsComplete, FrontsAreRuns, FrontsAreSafe, HeldAreUncommitted, HonestAttemptsAdd, LanesCover, NoStateIsLeft, OpeningIsSafe, OrderIsFree, PipesAreHonest, PrefixesFit, RowsAreOwn, RunsAreHonest, RunsAreOrdered, RunsAreSafe, RunsGrow, RunsStaySafe, SafeCommitsFit, SealedInFront, StaysSafe, StoreMergesFit};
 
 /// Whatever the machine does, its load is safe.
 pub fn runs_are_safe()
     ensures { RunsAreSafe }
+{}
+
+/// Whatever the machine does and whatever rows it commits, its states are in order, behind their records.
+pub fn runs_are_ordered()
+    ensures { RunsAreOrdered }
+{}
+
+/// A run goes on with further steps as one run.
+pub fn runs_grow()
+    ensures { RunsGrow }
+{}
+
+/// A safe run stays safe by one step more, which commits the rows of its records.
+pub fn runs_stay_safe()
+    ensures { RunsStaySafe }
 {}
 
 /// What fits event by event fits in every prefix.
@@ -84,6 +99,16 @@ pub fn safe_commits_fit()
 /// Each attempt of a run of the engine is a safe destination by itself.
 pub fn attempts_are_safe()
     ensures { AttemptsAreSafe }
+{}
+
+/// No load is finished, and incomplete as well.
+pub fn finished_is_complete()
+    ensures { FinishedIsComplete }
+{}
+
+/// The attempts of a run of the engine are honest, where their lines go through pipes.
+pub fn runs_are_honest()
+    ensures { RunsAreHonest }
 {}
 
 /// Honest attempts add honestly, whatever was before.

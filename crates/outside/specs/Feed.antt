@@ -1,5 +1,5 @@
 -- What contracts see of a feed, and what its calls do to it.
-use Rattle.std.specs.Prelude.{◌≡◌, ◌≢◌, ◌⊎◌, ℕ, List, [], ◌∷◌, Option, None, Some, IfSome, option_map, Result, Ok, Err}
+use Rattle.std.specs.Prelude.{◌≡◌, ◌≢◌, ◌≤◌, ◌⊎◌, ℕ, List, [], ◌∷◌, Option, None, Some, IfSome, option_map, Result, Ok, Err}
 use Rattle.basics.specs.Told.{Rose}
 use Rattle.outside.specs.declared.status.Status.{Status}
 use Rattle.outside.specs.declared.status.Status.TheVariants as status
@@ -41,8 +41,9 @@ abbrev pub end_answer : Status → Result (Option (List ℕ)) Status
 end_answer status.Ok = Ok None
 end_answer why = Err why
 
--- The feed goes on to answer as it ended.
+-- The feed goes on to answer as it ended, and nothing is left of it.
 pub record AnswersAgain (answer : Result (Option (List ℕ)) Status) (why : Status) (old new : FeedSeen) : Type 0 where
+  pub over : IsOver why old
   pub same : answer ≡ end_answer why
   pub stays : new ≡ old
 
@@ -55,10 +56,13 @@ pub record WantsMemory (why : Status) (old new : FeedSeen) : Type 0 where
 pub record LosesRows (why : Status) (old new : FeedSeen) : Type 0 where
   pub is : why ≡ status.RowFault
   pub rose : Rose old.faults new.faults
+  pub kept : old.faults ≤ new.faults
   pub ended : new ≡ record (ended_with why old) { faults = new.faults }
 
--- it ended, as was told
+-- It ended, as was told. Neither want of memory nor rows that could not be read is an end that a feed tells.
 pub record Ends (why : Status) (old new : FeedSeen) : Type 0 where
+  pub memory : why ≢ status.NoMemory
+  pub rows : why ≢ status.RowFault
   pub over : IsOver why old
   pub ended : new ≡ ended_with why old
 
