@@ -1,6 +1,6 @@
 -- Awaited states, and what one line more makes of them.
 use Rattle.std.proofs.Common.{◌≡◌, ◌⊎◌, inl, inr, ℕ, zero, suc, ◌+◌, ◌<◌, ◌≤◌, List, [], ◌∷◌, length, Option, None, Some, Bool, true, false, ◌||◌, refl, sym, ◌∙◌, ap, subst, arith, slice_get, replicate, set}
-use Rattle.std.specs.Prelude.{IfSome, IsSomeAnd, IsTrue, is_none, is_some, not}
+use Rattle.std.specs.Prelude.{IfSome, IsSomeAnd, is_none, is_some, not}
 use Rattle.std.proofs.lemmas.List.{length-replicate}
 use Rattle.basics.specs.declared.stream.StreamId.{StreamId}
 use Rattle.outside.specs.Tables.{same_id}
@@ -8,6 +8,10 @@ use Rattle.outside.proofs.TableLaws.{id_own}
 use Rattle.airbyte_message.specs.Lanes.{Lane, one, all, lane_of}
 use Rattle.airbyte_message.specs.Same.{IsSameKind, Same}
 use Rattle.airbyte_message.specs.State.{State}
+use Rattle.airbyte_message.specs.Views.{message_at, record_at}
+use Rattle.airbyte_message.specs.declared.view.MessageView.{MessageView}
+use Rattle.airbyte_message.specs.declared.view.MessageView.TheVariants as view
+use Rattle.airbyte_message.specs.declared.view.RecordView.{RecordView}
 use Rattle.airbyte_message.specs.declared.message.Message.{Message}
 use Rattle.airbyte_message.specs.declared.message.Message.TheVariants as message
 use Rattle.airbyte_message.specs.declared.message.RecordMsg.{RecordMsg}
@@ -171,6 +175,10 @@ neither_of (message.Catalog content) record_ state = tt
 neither_of (message.Trace content) record_ state = tt
 neither_of (message.Control content) record_ state = tt
 
+-- a record in its line
+pub viewed_record : (seen : MessageView) (own : RecordView) → seen ≡ view.Rec own → message_at seen ≡ message.Rec (record_at own)
+viewed_record seen own own_is = ap (λ (v : MessageView). message_at v) own_is
+
 -- ---- a state
 
 module _ (number : ℕ) (own : State) where
@@ -262,12 +270,6 @@ some_there (Some count) e = (count, refl)
 
 pub found_at : (states : List State) (awaited : Awaited) (place : ℕ) (state : State) → states ≡ awaited.states → slice_get states place ≡ Some state → slice_get awaited.states place ≡ Some state
 found_at states awaited place state same at = ap (λ (ss : List State). slice_get ss place) (sym same) ∙ at
-
-pub is_true : {b : Bool} → b ≡ true → IsTrue b
-is_true {b} e = subst (λ (x : Bool). IsTrue x) (sym e) tt
-
-pub not_true : {b : Bool} → b ≡ false → ¬ IsTrue b
-not_true {b} e = λ holds. let P : Bool → Type 0 = λ x. IsTrue x in subst P e holds
 
 -- ---- how many have not come
 

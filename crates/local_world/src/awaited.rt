@@ -211,6 +211,25 @@ impl Awaited {
         }
     }
 
+    // Notes a message in its line.
+    fn pass_view(
+        &mut self,
+        alloc: Global,
+        number: usize,
+        view: &MessageView<'_>,
+    ) -> Result<bool, NoMemory>
+        requires { number < usize.MAX }
+        ensures { IfOk result (Passes number (Some (message_at view.now)) self.old self.new) }
+    {
+        match view {
+            MessageView::Rec(record) => {
+                let id = own_id(alloc, &record.id)?;
+                Ok(self.awaits(&id))
+            }
+            MessageView::Owned(message) => self.pass_message(alloc, number, message),
+        }
+    }
+
     /// Notes the line with this number, from 0, by the message that it is: whether it is left out, since the state of its
     /// lane has not come before it.
     pub fn pass(
@@ -223,11 +242,7 @@ impl Awaited {
         ensures { IfOk result (Passes number (option_map message_at found.now) self.old self.new) }
     {
         match found {
-            Some(MessageView::Rec(record)) => {
-                let id = own_id(alloc, &record.id)?;
-                Ok(self.awaits(&id))
-            }
-            Some(MessageView::Owned(message)) => self.pass_message(alloc, number, message),
+            Some(view) => self.pass_view(alloc, number, view),
             None => Ok(self.passes_over()),
         }
     }

@@ -15,7 +15,9 @@ overflow_sub-self c =
 pub index_mut-requires : goal.index_mut-requires
 index_mut-requires c =
     let at = subst (λ (a : Awaited). slice_get a.reached c.args.place ≡ Some None) (sym c.self.view_is) c.requires in
-    slice_get_within c.self.inside.reached.items c.args.place None at
+    let lt = slice_get_within c.self.inside.reached.items c.args.place None at in
+    let ok = c.self.inside.reached.ok in
+    omega (arith, lt, ok)
 
 pub invariant_of-self : goal.invariant_of-self
 invariant_of-self c =
