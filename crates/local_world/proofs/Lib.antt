@@ -1,2 +1,4 @@
 pub mod StartedLemmas
 pub mod AwaitLemmas
+pub mod FrontLemmas
+pub mod FileLemmas

@@ -1,5 +1,5 @@
 -- For private clauses: the lines of a text that are left, by their places.
-use Rattle.std.specs.Prelude.{◌≡◌, ℕ, ◌≤◌, List, [], ◌∷◌, ◌++◌, drop, length, map, slice_range, Option, None, Some}
+use Rattle.std.specs.Prelude.{◌≡◌, ℕ, ◌≤◌, List, [], ◌∷◌, ◌++◌, drop, length, map, slice_range, Bool, true, false, Option, None, Some}
 use Rattle.text_lines.specs.Lines.{lines_of}
 use Rattle.local_world.specs.declared.left_lines.Place.{Place}
 
@@ -23,3 +23,8 @@ lines_left text front behind = map (line_at text) front ++ lines_of (drop behind
 abbrev pub GivesLine : Option (List ℕ) → List (List ℕ) → List (List ℕ) → Type 0
 GivesLine None old new = (old ≡ []) × (new ≡ [])
 GivesLine (Some line) old new = old ≡ line ∷ new
+
+-- the place of a line stands behind the others, unless it is left out
+abbrev pub IsKeptUnless : Bool → Place → List Place → List Place → Type 0
+IsKeptUnless true place places now = now ≡ places
+IsKeptUnless false place places now = now ≡ places ++ place ∷ []
