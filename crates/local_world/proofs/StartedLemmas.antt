@@ -32,7 +32,7 @@ None_Some a e = absurd (let h : None ≡ Some a = e in cc)
 pub Some-injective : {A : Type 0} (a b : A) → Some a ≡ Some b → a ≡ b
 Some-injective a b e = cc
 
-or_false : (a b : Bool) → (a || b) ≡ false → (a ≡ false) × (b ≡ false)
+pub or_false : (a b : Bool) → (a || b) ≡ false → (a ≡ false) × (b ≡ false)
 or_false true b e = true_false e
 or_false false b e = (refl, e)
 
