@@ -182,7 +182,6 @@ viewed_record seen own own_is = ap (λ (v : MessageView). message_at v) own_is
 -- ---- a state
 
 module _ (number : ℕ) (own : State) where
-
   abbrev has : State → Bool
   has state = state_has (stream_of own.kind) state
 
@@ -197,7 +196,7 @@ module _ (number : ℕ) (own : State) where
   none_comes [] (o ∷ reached) size only = absurd (omega (arith, size))
   none_comes (state ∷ states) [] size only = absurd (omega (arith, size))
   none_comes (state ∷ states) (o ∷ reached) size only =
-    (one_stays number (Some (message.State own)) state o (not_held state only.0), none_comes states reached (let e : suc (length reached) ≡ suc (length states) = size in omega (arith, e)) only.1)
+      (one_stays number (Some (message.State own)) state o (not_held state only.0), none_comes states reached (let e : suc (length reached) ≡ suc (length states) = size in omega (arith, e)) only.1)
 
   -- the state of the lane has come before
   came_before : (states : List State) (reached : List (Option ℕ)) (place count : ℕ) → length reached ≡ length states → IsOnlyAt has states (Some place) → slice_get reached place ≡ Some (Some count) → AllCome number (Some (message.State own)) states reached reached
@@ -205,48 +204,48 @@ module _ (number : ℕ) (own : State) where
   came_before (state ∷ states) [] place count size only at = None_Some (Some count) at
   came_before (state ∷ states) (None ∷ reached) zero count size only at = None_Some count (Some-injective None (Some count) at)
   came_before (state ∷ states) (Some c ∷ reached) zero count size only at =
-    (refl, none_comes states reached (let e : suc (length reached) ≡ suc (length states) = size in omega (arith, e)) only.1)
+      (refl, none_comes states reached (let e : suc (length reached) ≡ suc (length states) = size in omega (arith, e)) only.1)
   came_before (state ∷ states) (o ∷ reached) (suc place) count size only at =
-    (one_stays number (Some (message.State own)) state o (not_held state only.0), came_before states reached place count (let e : suc (length reached) ≡ suc (length states) = size in omega (arith, e)) only.1 at)
+      (one_stays number (Some (message.State own)) state o (not_held state only.0), came_before states reached place count (let e : suc (length reached) ≡ suc (length states) = size in omega (arith, e)) only.1 at)
 
   -- the state of the lane is another
   not_yet : (states : List State) (reached : List (Option ℕ)) (place : ℕ) (wanted : State) → length reached ≡ length states → IsOnlyAt has states (Some place) → slice_get states place ≡ Some wanted → ¬ Same own wanted → AllCome number (Some (message.State own)) states reached reached
   not_yet [] reached place wanted size only at other = None_Some place (sym only)
   not_yet (state ∷ states) [] place wanted size only at other = absurd (omega (arith, size))
   not_yet (state ∷ states) (o ∷ reached) zero wanted size only at other =
-    (one_stays number (Some (message.State own)) state o (λ same. other (subst (λ (s : State). Same own s) (Some-injective state wanted at) same)), none_comes states reached (let e : suc (length reached) ≡ suc (length states) = size in omega (arith, e)) only.1)
+      (one_stays number (Some (message.State own)) state o (λ same. other (subst (λ (s : State). Same own s) (Some-injective state wanted at) same)), none_comes states reached (let e : suc (length reached) ≡ suc (length states) = size in omega (arith, e)) only.1)
   not_yet (state ∷ states) (o ∷ reached) (suc place) wanted size only at other =
-    (one_stays number (Some (message.State own)) state o (not_held state only.0), not_yet states reached place wanted (let e : suc (length reached) ≡ suc (length states) = size in omega (arith, e)) only.1 at other)
+      (one_stays number (Some (message.State own)) state o (not_held state only.0), not_yet states reached place wanted (let e : suc (length reached) ≡ suc (length states) = size in omega (arith, e)) only.1 at other)
 
   -- the state of the lane comes
   comes_now : (states : List State) (reached : List (Option ℕ)) (place : ℕ) (wanted : State) → length reached ≡ length states → IsOnlyAt has states (Some place) → slice_get states place ≡ Some wanted → slice_get reached place ≡ Some None → Same own wanted → AllCome number (Some (message.State own)) states reached (set reached place (Some (number + 1)))
   comes_now [] reached place wanted size only at none same = None_Some place (sym only)
   comes_now (state ∷ states) [] place wanted size only at none same = absurd (omega (arith, size))
   comes_now (state ∷ states) (None ∷ reached) zero wanted size only at none same =
-    (inl (subst (λ (s : State). Same own s) (sym (Some-injective state wanted at)) same, refl), none_comes states reached (let e : suc (length reached) ≡ suc (length states) = size in omega (arith, e)) only.1)
+      (inl (subst (λ (s : State). Same own s) (sym (Some-injective state wanted at)) same, refl), none_comes states reached (let e : suc (length reached) ≡ suc (length states) = size in omega (arith, e)) only.1)
   comes_now (state ∷ states) (Some count ∷ reached) zero wanted size only at none same = None_Some count (sym (Some-injective (Some count) None none))
   comes_now (state ∷ states) (o ∷ reached) (suc place) wanted size only at none same =
-    (one_stays number (Some (message.State own)) state o (not_held state only.0), comes_now states reached place wanted (let e : suc (length reached) ≡ suc (length states) = size in omega (arith, e)) only.1 at none same)
+      (one_stays number (Some (message.State own)) state o (not_held state only.0), comes_now states reached place wanted (let e : suc (length reached) ≡ suc (length states) = size in omega (arith, e)) only.1 at none same)
 
   pub passed_other : (awaited : Awaited) → length awaited.reached ≡ length awaited.states → IsOnlyAt has awaited.states None → Passes number (Some (message.State own)) awaited awaited false
   passed_other awaited size only =
-    record { states = refl; come = none_comes awaited.states awaited.reached size only; out = sym (none_any has awaited.states awaited.reached only) ∙ state_out awaited.states awaited.reached }
+      record { states = refl; come = none_comes awaited.states awaited.reached size only; out = sym (none_any has awaited.states awaited.reached only) ∙ state_out awaited.states awaited.reached }
 
   pub passed_later : (awaited : Awaited) (place count : ℕ) → length awaited.reached ≡ length awaited.states → IsOnlyAt has awaited.states (Some place) → slice_get awaited.reached place ≡ Some (Some count) → Passes number (Some (message.State own)) awaited awaited false
   passed_later awaited place count size only at =
-    record { states = refl; come = came_before awaited.states awaited.reached place count size only at; out = sym (one_any has awaited.states awaited.reached place (Some count) only at) ∙ state_out awaited.states awaited.reached }
+      record { states = refl; come = came_before awaited.states awaited.reached place count size only at; out = sym (one_any has awaited.states awaited.reached place (Some count) only at) ∙ state_out awaited.states awaited.reached }
 
   pub passed_early : (awaited : Awaited) (place : ℕ) (wanted : State) → length awaited.reached ≡ length awaited.states → IsOnlyAt has awaited.states (Some place) → slice_get awaited.states place ≡ Some wanted → slice_get awaited.reached place ≡ Some None → ¬ Same own wanted → Passes number (Some (message.State own)) awaited awaited true
   passed_early awaited place wanted size only at none other =
-    record { states = refl; come = not_yet awaited.states awaited.reached place wanted size only at other; out = sym (one_any has awaited.states awaited.reached place None only none) ∙ state_out awaited.states awaited.reached }
+      record { states = refl; come = not_yet awaited.states awaited.reached place wanted size only at other; out = sym (one_any has awaited.states awaited.reached place None only none) ∙ state_out awaited.states awaited.reached }
 
   pub passed_now : (awaited now : Awaited) (place : ℕ) (wanted : State) → length awaited.reached ≡ length awaited.states → IsOnlyAt has awaited.states (Some place) → slice_get awaited.states place ≡ Some wanted → slice_get awaited.reached place ≡ Some None → Same own wanted → now.states ≡ awaited.states → now.reached ≡ set awaited.reached place (Some (number + 1)) → Passes number (Some (message.State own)) awaited now true
   passed_now awaited now place wanted size only at none same states reached =
-    record {
-      states = states;
-      come = subst (λ (r : List (Option ℕ)). AllCome number (Some (message.State own)) awaited.states awaited.reached r) (sym reached) (comes_now awaited.states awaited.reached place wanted size only at none same);
-      out = sym (one_any has awaited.states awaited.reached place None only none) ∙ state_out awaited.states awaited.reached;
-    }
+      record {
+        states = states;
+        come = subst (λ (r : List (Option ℕ)). AllCome number (Some (message.State own)) awaited.states awaited.reached r) (sym reached) (comes_now awaited.states awaited.reached place wanted size only at none same);
+        out = sym (one_any has awaited.states awaited.reached place None only none) ∙ state_out awaited.states awaited.reached;
+      }
 
 -- what is known where the state of the lane was looked for
 pub own_only : (own : State) (id : Option StreamId) (k : StateKind) (states : List State) (place known : Option ℕ) → IsOnlyAt (state_has id) states place → id ≡ stream_of k → k ≡ own.kind → place ≡ known → IsOnlyAt (state_has (stream_of own.kind)) states known

@@ -119,9 +119,9 @@ passed_left text states awaited places behind number has none read reads =
       starts = come.starts;
       begins = subst (λ (ls : List Line). AreStarts ls awaited.states come.starts) (sym whole) come.are;
       left = ap (λ (ts : List (List ℕ)). ts ++ lines_of (drop behind text)) (stands.left_is come.starts come.from)
-        ∙ (ap (λ (ts : List (List ℕ)). map (λ line. line.text) (left_behind come.starts passed) ++ ts) (sym (texts_of read (lines_of (drop behind text))))
-        ∙ (sym (map-append (λ (line : Line). line.text) (left_behind come.starts passed) rest)
-        ∙ ap (λ (ls : List Line). map (λ line. line.text) ls) (sym (all_left come.starts passed rest come.low) ∙ ap (λ (ls : List Line). left_behind come.starts ls) (sym whole))));
+          ∙ (ap (λ (ts : List (List ℕ)). map (λ line. line.text) (left_behind come.starts passed) ++ ts) (sym (texts_of read (lines_of (drop behind text))))
+          ∙ (sym (map-append (λ (line : Line). line.text) (left_behind come.starts passed) rest)
+          ∙ ap (λ (ls : List Line). map (λ line. line.text) ls) (sym (all_left come.starts passed rest come.low) ∙ ap (λ (ls : List Line). left_behind come.starts ls) (sym whole))));
     })
 
 -- where the text is over and one has not come, it is nowhere

@@ -135,6 +135,7 @@ one_more starts lines line is_out left out is = at is_out out
   where
     whole : left_behind starts (lines ++ line ∷ []) ≡ left_from starts 0 lines ++ cond (is_left_out starts (length lines) line) [] (line ∷ [])
     whole = let e : 0 + length lines ≡ length lines = omega arith in left_from-append starts 0 lines (line ∷ []) ∙ ap (λ (n : ℕ). left_from starts 0 lines ++ left_from starts n (line ∷ [])) e
+
     at : (b : Bool) → is_left_out starts (length lines) line ≡ b → cond b left (left ++ line.text ∷ []) ≡ map (λ l. l.text) (left_behind starts (lines ++ line ∷ []))
     at true e = is ∙ sym (ap (λ (ls : List Line). map (λ l. l.text) ls) (whole ∙ (ap (λ (b : Bool). left_from starts 0 lines ++ cond b [] (line ∷ [])) e ∙ append-nil (left_from starts 0 lines))))
     at false e = ap (λ (ts : List (List ℕ)). ts ++ line.text ∷ []) is ∙ sym (ap (λ (ls : List Line). map (λ l. l.text) ls) (whole ∙ ap (λ (b : Bool). left_from starts 0 lines ++ cond b [] (line ∷ [])) e) ∙ map-append (λ (l : Line). l.text) (left_from starts 0 lines) (line ∷ []))

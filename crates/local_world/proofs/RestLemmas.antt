@@ -13,7 +13,9 @@ use Rattle.airbyte_message.specs.declared.message.RecordMsg.{RecordMsg}
 use Rattle.airbyte_message.specs.declared.message.StateKind.{StateKind}
 use Rattle.airbyte_message.specs.declared.message.StateKind.TheVariants as kind
 use Rattle.load_rules.specs.Lines.{Line, record_in, state_in}
-use Rattle.load_rules.specs.Taken.{covers, is_of_lane}
+use Rattle.outside.proofs.TableLaws.{id_own}
+use Rattle.airbyte_message.proofs.SameLemmas.{same_onward, same_turned}
+use Rattle.load_rules.specs.Taken.{covers, is_of_lane, is_same_lane}
 use Rattle.local_world.specs.Starts.{Holds, IsNowhere, ReachTo}
 use Rattle.local_world.specs.Left.{has_state, is_of, left_behind}
 use Rattle.local_world.specs.Replay.{GivesRest, HasPlace, IsReplayable, StartsAt, of_lane, records_of, started, states_in}
@@ -151,9 +153,10 @@ get_behind (x ∷ xs) y ys d = get_behind xs y ys d
 pairs_front : (R : State → State → Type 0) (xs : List State) (y : State) (ys : List State) → AllPairs R (xs ++ y ∷ ys) → AllByRecursion (λ x. R x y) xs
 pairs_front R [] y ys pairs = tt
 pairs_front R (x ∷ xs) y ys pairs =
-    let size : length (xs ++ y ∷ ys) ≡ length xs + suc (length ys) = length-append xs (y ∷ ys) in
-    (subst (λ (z : State). R x z) (get_behind xs y ys x) (pairs 0 (suc (length xs)) x (omega arith) (omega (arith, size))),
-      pairs_front R xs y ys (λ i j d lt within_. pairs (suc i) (suc j) d (omega (arith, lt)) (omega (arith, within_))))
+    let size : length (xs ++ y ∷ ys) ≡ length xs + suc (length ys) = length-append xs (y ∷ ys) in (
+      subst (λ (z : State). R x z) (get_behind xs y ys x) (pairs 0 (suc (length xs)) x (omega arith) (omega (arith, size))),
+      pairs_front R xs y ys (λ i j d lt within_. pairs (suc i) (suc j) d (omega (arith, lt)) (omega (arith, within_))),
+    )
 
 first_nowhere : (own : State) (o : Option State) (states : List State) → AllByRecursion (λ s. ¬ Same s own) (cons_option o states) → (¬ IsSomeAnd o (λ s. Same s own)) × AllByRecursion (λ s. ¬ Same s own) states
 first_nowhere own None states each = (λ none. none, each)
@@ -192,7 +195,7 @@ left_at : (lane : Lane) (lines left : List Line) (count : ℕ) (front behind : L
 left_at lane lines left count front behind line same splits of =
     let test : Line → Bool = λ l. is_of lane l.found in
     let own : of_lane lane (drop count lines) ≡ of_lane lane front ++ line ∷ of_lane lane behind =
-      sym same ∙ (ap (of_lane lane) splits ∙ (filter-append test front (line ∷ behind) ∙ ap (λ (b : Bool). of_lane lane front ++ cond b (line ∷ of_lane lane behind) (of_lane lane behind)) of)) in
+    sym same ∙ (ap (of_lane lane) splits ∙ (filter-append test front (line ∷ behind) ∙ ap (λ (b : Bool). of_lane lane front ++ cond b (line ∷ of_lane lane behind) (of_lane lane behind)) of)) in
     let r = within test (drop count lines) (of_lane lane front) line (of_lane lane behind) own in
     record {
       before = r.before;
@@ -218,8 +221,8 @@ own_place lane lines left count front behind line own replays same splits is of 
     let fronts : records_of lane at.before ≡ records_of lane front = sym (lane_records lane at.before) ∙ (ap (records_of lane) at.front_is ∙ lane_records lane front) in
     let taken : take (length before + 1) lines ≡ before ++ line ∷ [] = ap (take (length before + 1)) at.splits ∙ take_at before line at.after in
     let all_records : records_of lane (take (length before + 1) lines) ≡ records_of lane (take count lines) ++ records_of lane front =
-      ap (records_of lane) taken ∙ (records-append lane before (line ∷ []) ∙ (ap (λ (rs : List RecordMsg). records_of lane before ++ rs) (no_record lane line own is) ∙ (append-nil (records_of lane before)
-      ∙ (records-append lane (take count lines) at.before ∙ ap (λ (rs : List RecordMsg). records_of lane (take count lines) ++ rs) fronts)))) in
+    ap (records_of lane) taken ∙ (records-append lane before (line ∷ []) ∙ (ap (λ (rs : List RecordMsg). records_of lane before ++ rs) (no_record lane line own is) ∙ (append-nil (records_of lane before)
+    ∙ (records-append lane (take count lines) at.before ∙ ap (λ (rs : List RecordMsg). records_of lane (take count lines) ++ rs) fronts)))) in
     record {
       count = length before + 1;
       reach = own_reach lane lines before line at.after own replays at.splits is of;
@@ -243,3 +246,58 @@ files_replay lane lines states starts replays none begins =
       records = sym (lane_records lane left) ∙ (ap (records_of lane) same ∙ (lane_records lane (drop s.count lines) ∙ records_drop lane s.count lines));
       states = λ front behind line own splits is of. own_place lane lines left s.count front behind line own replays same splits is of;
     }
+
+-- ---- begun again with a state that was given
+
+lane_itself : (lane : Lane) → is_same_lane lane lane ≡ true
+lane_itself all = refl
+lane_itself (one id) = id_own id
+
+weaker : (P Q : Line → Type 0) (lines : List Line) → ((line : Line) → P line → Q line) → AllByRecursion P lines → AllByRecursion Q lines
+weaker P Q [] each all_ = tt
+weaker P Q (line ∷ lines) each all_ = (each line all_.0, weaker P Q lines each all_.1)
+
+held_too : (own state : State) (found : Option State) → Same own state → IsSomeAnd found (λ s. Same s state) → IsSomeAnd found (λ s. Same s own)
+held_too own state None same holds = holds
+held_too own state (Some s) same holds = same_onward s.kind state.kind own.kind holds (same_turned own.kind state.kind same)
+
+-- the first line that holds the same state stands at one place
+once : (state : State) (first : List Line) (x : Line) (xs : List Line) (second : List Line) (y : Line) (ys : List Line) → first ++ x ∷ xs ≡ second ++ y ∷ ys → IsNowhere first state → Holds state x.found → IsNowhere second state → Holds state y.found → length first ≡ length second
+once state [] x xs [] y ys e none holds other held = refl
+once state [] x xs (s ∷ second) y ys e none holds other held =
+    let same : x ≡ s = cons_head x s xs (second ++ y ∷ ys) e in absurd (other.0 (subst (λ (l : Line). Holds state l.found) same holds))
+once state (f ∷ first) x xs [] y ys e none holds other held =
+    let same : y ≡ f = sym (cons_head f y (first ++ x ∷ xs) ys e) in absurd (none.0 (subst (λ (l : Line). Holds state l.found) same held))
+once state (f ∷ first) x xs (s ∷ second) y ys e none holds other held =
+    ap (λ (n : ℕ). suc n) (once state first x xs second y ys (cons_tail f s (first ++ x ∷ xs) (second ++ y ∷ ys) e) none.1 holds other.1 held)
+
+reach_once : (lines : List Line) (state : State) (a b : ℕ) → ReachTo lines state a → ReachTo lines state b → a ≡ b
+reach_once lines state a b first second =
+    let e = once state first.before first.line first.behind second.before second.line second.behind (sym first.splits ∙ second.splits) first.none first.holds second.none second.holds in
+    first.counts ∙ (ap (λ (n : ℕ). n + 1) e ∙ sym second.counts)
+
+started_reach : (lane : Lane) (lines : List Line) (again : List State) (state : State) (count : ℕ) → started lane again ≡ Some state → ((started lane again ≡ None) × (count ≡ 0)) ⊎ ((own : State) × (started lane again ≡ Some own) × ReachTo lines own count) → ReachTo lines state count
+started_reach lane lines again state count is (inl none) = None_Some state (sym none.0 ∙ is)
+started_reach lane lines again state count is (inr some) = subst (λ (s : State). ReachTo lines s count) (Some-injective some.0 state (sym some.1 ∙ is)) some.2
+
+pub files_resume : FilesResume
+unfolding own_reach
+files_resume lane lines states again starts later gone rest line own state replays none begins splits is own_lane none_again begins_again is_started same =
+    let of : is_of_lane lane (lane_of own.kind) ≡ true = ap (is_of_lane lane) own_lane ∙ lane_itself lane in
+    let s = lane_start lane lines states starts replays none begins in
+    let t = lane_start lane lines again later replays none_again begins_again in
+    let at = left_at lane lines (left_behind starts lines) s.count gone rest line (lane_left lane lines states starts s) splits (line_of lane line own is of) in
+    let before = take s.count lines ++ at.before in
+    let reach = own_reach lane lines before line at.after own replays at.splits is of in
+    let reach_state : ReachTo lines state (length before + 1) = record {
+      before = before;
+      line = line;
+      behind = at.after;
+      splits = at.splits;
+      none = weaker (λ l. ¬ Holds own l.found) (λ l. ¬ Holds state l.found) before (λ l not_own held. not_own (held_too own state (state_in l.found) same held)) reach.none;
+      holds = subst (λ (o : Option State). IsSomeAnd o (λ x. Same x state)) (sym is) same;
+      counts = refl;
+    } in
+    let count : t.count ≡ length before + 1 = reach_once lines state t.count (length before + 1) (started_reach lane lines again state t.count is_started t.at) reach_state in
+    let behind : drop (length before + 1) lines ≡ at.after = ap (drop (length before + 1)) at.splits ∙ drop_behind before line at.after in
+    lane_left lane lines again later t ∙ (ap (of_lane lane) (ap (λ (n : ℕ). drop n lines) count ∙ behind) ∙ at.behind_is)

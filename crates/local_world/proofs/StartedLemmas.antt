@@ -199,9 +199,10 @@ found_place id states index place sound is le = by_kind (two_kinds states sound)
     streams : AreStreams states → (p : Option ℕ) → IfSome p (λ n. slice_get index n ≡ Some id) → IfNone p ((n : ℕ) → ¬ (slice_get index n ≡ Some id)) → IsOnlyAt (state_has (Some id)) states p
     streams are (Some p) at none = one_has id states p are sound.once (sym (ap (λ (xs : List StreamId). slice_get xs p) is) ∙ at)
     streams are None at none = none_has id states are (by_bool (list_any (is_same_stream id) (filter_map (λ s. stream_of s.kind) states))
-      (λ any. let r = list_any-place (is_same_stream id) (filter_map (λ s. stream_of s.kind) states) any in
-      absurd (none r.0 (ap (λ (xs : List StreamId). slice_get xs r.0) is ∙ (r.2 ∙ ap (λ (x : StreamId). Some x) (sym ((Decides-stream id r.1).0 r.3))))))
-      (λ no. no))
+        (λ any. let r = list_any-place (is_same_stream id) (filter_map (λ s. stream_of s.kind) states) any in
+        absurd (none r.0 (ap (λ (xs : List StreamId). slice_get xs r.0) is ∙ (r.2 ∙ ap (λ (x : StreamId). Some x) (sym ((Decides-stream id r.1).0 r.3))))))
+        (λ no. no))
+
     by_kind : AreStreams states ⊎ IsOneGlobal states → (p : Option ℕ) → IfSome p (λ n. slice_get index n ≡ Some id) → IfNone p ((n : ℕ) → ¬ (slice_get index n ≡ Some id)) → IsOnlyAt (state_has (Some id)) states p
     by_kind (inl are) p at none = streams are p at none
     by_kind (inr one_state) p at none =
@@ -227,4 +228,4 @@ global_place id states index sound is lt = by_kind (two_kinds states sound)
         let size : length index ≡ length states = ap length is ∙ length-ids states are in
         absurd (omega (arith, lt, size))
     by_kind (inr g) = subst (λ (ss : List State). IsOnlyAt (state_has id) ss (Some 0)) (sym g.is)
-      (ap (λ (o : Option Lane). lane_has o id) (global_lane g.state.kind g.global), refl)
+        (ap (λ (o : Option Lane). lane_has o id) (global_lane g.state.kind g.global), refl)

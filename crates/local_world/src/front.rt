@@ -71,13 +71,7 @@ pub fn read_front(alloc: Global, text: &[u8], states: StateList) -> Result<Optio
             return Ok(None);
         };
         let Range { start, end } = line;
-        let is_out = passes_line(
-            alloc,
-            &mut reader,
-            &mut awaited,
-            number,
-            &text[start..end],
-        )?;
+        let is_out = passes_line(alloc, &mut reader, &mut awaited, number, &text[start..end])?;
         keep_unless(is_out, &mut places, Place { start, end })?;
         behind = end;
         number += 1;

@@ -9,7 +9,9 @@ use Rattle.local_world.proofs.awaited.Awaited.new.Goals as goal
 
 pub invariant_of-result : goal.invariant_of-result
 invariant_of-result c =
-    let all = c.in_ok-reached.ensures in
-    (c.requires, c.in_ok-index.ensures ∙ ap (λ (ss : List State). filter_map (λ s. stream_of s.kind) ss) c.as_slice.ensures,
+    let all = c.in_ok-reached.ensures in (
+      c.requires,
+      c.in_ok-index.ensures ∙ ap (λ (ss : List State). filter_map (λ s. stream_of s.kind) ss) c.as_slice.ensures,
       ap length all ∙ (length-replicate c.len-missing.result None ∙ c.len-missing.ensures),
-      sym (ap count_missing all ∙ missing_replicate c.len-missing.result))
+      sym (ap count_missing all ∙ missing_replicate c.len-missing.result),
+    )

@@ -11,7 +11,7 @@ pub returns-then-len-clause-only : goal.returns-then-len-clause-only
 returns-then-len-clause-only c =
     subst (λ (a : Awaited). IsOnlyAt (state_has (option_copied c.args.id)) a.states (Some 0)) c.self.view_is
     (global_place (option_copied c.args.id) c.self.inside.states c.self.inside.index (are_sound c.self.inside.states c.self.invariant.0) c.self.invariant.1
-      (let lt = c.if-len.true in let a = c.len.ensures.len in let b = c.len-2.ensures in omega (arith, lt, a, b)))
+    (let lt = c.if-len.true in let a = c.len.ensures.len in let b = c.len-2.ensures in omega (arith, lt, a, b)))
 
 pub returns-then-len-clause-within : goal.returns-then-len-clause-within
 returns-then-len-clause-within c =
