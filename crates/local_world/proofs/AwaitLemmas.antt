@@ -1,7 +1,6 @@
 -- Awaited states, and what one line more makes of them.
-use Rattle.std.proofs.Common.{◌≡◌, ◌⊎◌, inl, inr, ℕ, zero, suc, ◌+◌, ◌<◌, ◌≤◌, List, [], ◌∷◌, length, Option, None, Some, Bool, true, false, ◌||◌, refl, sym, ◌∙◌, ap, subst, arith, slice_get, replicate, set}
+use Rattle.std.proofs.Common.{◌≡◌, inl, inr, ℕ, zero, suc, ◌+◌, ◌<◌, ◌≤◌, List, [], ◌∷◌, length, Option, None, Some, Bool, true, false, ◌||◌, refl, sym, ◌∙◌, ap, subst, arith, slice_get, replicate, set}
 use Rattle.std.specs.Prelude.{IfSome, IsSomeAnd, is_none, is_some, not}
-use Rattle.std.proofs.lemmas.List.{length-replicate}
 use Rattle.basics.specs.declared.stream.StreamId.{StreamId}
 use Rattle.outside.specs.Tables.{same_id}
 use Rattle.outside.proofs.TableLaws.{id_own}
@@ -20,9 +19,8 @@ use Rattle.airbyte_message.specs.declared.message.StateKind.TheVariants as kind
 use Rattle.state_kinds.specs.StateLists.{stream_of}
 use Rattle.load_rules.specs.Lines.{state_in}
 use Rattle.local_world.specs.Starts.{Holds}
-use Rattle.local_world.specs.Left.{is_of}
 use Rattle.local_world.specs.Awaited.{AllCome, Awaited, Comes, IsNeither, IsOnlyAt, Passes, count_missing, is_awaited, is_of_lane, is_of_state, lane_has, state_has}
-use Rattle.local_world.proofs.StartedLemmas.{None_Some, Some-injective, by_bool, true_false}
+use Rattle.local_world.proofs.StartedLemmas.{None_Some, Some-injective, true_false}
 
 -- ---- places
 

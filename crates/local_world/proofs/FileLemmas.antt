@@ -1,5 +1,5 @@
 -- The lines of a text that were passed, one by one.
-use Rattle.std.proofs.Common.{◌≡◌, ℕ, zero, suc, ◌+◌, ◌<◌, ◌≤◌, List, [], ◌∷◌, ◌++◌, map, length, drop, slice_range, All, Option, None, Some, Bool, true, false, cond, refl, sym, ◌∙◌, ap, subst, arith, replicate, append_assoc, length-append}
+use Rattle.std.proofs.Common.{◌≡◌, ℕ, zero, suc, ◌+◌, ◌<◌, ◌≤◌, List, [], ◌∷◌, ◌++◌, map, length, drop, All, Option, None, Some, Bool, true, false, cond, refl, sym, ◌∙◌, ap, subst, arith, replicate, append_assoc, length-append}
 use Rattle.std.specs.Prelude.{IfOk, OnOk, Result, Ok, Err}
 use Rattle.std.specs.List.{AllByRecursion, Any}
 use Rattle.std.proofs.lemmas.List.{append-nil, map-append, length-map}

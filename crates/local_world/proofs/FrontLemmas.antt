@@ -1,7 +1,7 @@
 -- What is known of started states and of what is left, line by line.
-use Rattle.std.proofs.Common.{◌≡◌, ◌⊎◌, inl, inr, ℕ, zero, suc, ◌+◌, ◌<◌, ◌≤◌, List, [], ◌∷◌, ◌++◌, map, length, Option, None, Some, Bool, true, false, cond, ◌||◌, ◌&&◌, refl, sym, ◌∙◌, ap, subst, arith, replicate, nat_lt, length-append, append_assoc}
+use Rattle.std.proofs.Common.{◌≡◌, inl, inr, ℕ, suc, ◌+◌, ◌<◌, ◌≤◌, List, [], ◌∷◌, ◌++◌, map, length, Option, None, Some, Bool, true, false, cond, ◌||◌, ◌&&◌, refl, sym, ◌∙◌, ap, subst, arith, replicate, nat_lt, length-append, append_assoc}
 use Rattle.std.specs.Prelude.{IsSomeAnd}
-use Rattle.std.specs.List.{AllByRecursion, AllZip, Any, list_any}
+use Rattle.std.specs.List.{AllByRecursion, AllZip, Any}
 use Rattle.std.proofs.lemmas.Bool.{le-ltb, lt-ltb}
 use Rattle.std.proofs.lemmas.List.{append-nil, map-append}
 use Rattle.airbyte_message.specs.Lanes.{Lane, one, all, lane_of}
@@ -12,10 +12,9 @@ use Rattle.airbyte_message.specs.declared.message.StateKind.{StateKind}
 use Rattle.airbyte_message.specs.declared.message.StateKind.TheVariants as kind
 use Rattle.load_rules.specs.Lines.{Line, state_in}
 use Rattle.load_rules.proofs.TakenLists.{all_append}
-use Rattle.local_world.specs.Starts.{AreStarts, Holds, IsNowhere, ReachTo, Start, StartsBehind}
+use Rattle.local_world.specs.Starts.{AreStarts, Holds, IsNowhere, ReachTo, Start}
 use Rattle.local_world.specs.Left.{is_left_out, is_of, left_behind, left_from}
 use Rattle.local_world.specs.Awaited.{AllCome, Awaited, Comes, HasCome, IsStartFrom, Passes, Stands, StartFrom, count_missing, is_awaited, is_of_lane, is_of_state}
-use Rattle.local_world.proofs.StartedLemmas.{None_Some, Some-injective, by_bool, true_false}
 
 -- ---- no line
 

@@ -1,11 +1,11 @@
 -- Where a lane starts, and that no other start leaves out a line of it.
-use Rattle.std.proofs.Common.{◌≡◌, ◌⊎◌, inl, inr, ℕ, zero, suc, ◌+◌, ◌-◌, ◌<◌, ◌≤◌, List, [], ◌∷◌, ◌++◌, length, drop, filter, Option, None, Some, Bool, true, false, cond, ◌||◌, ◌&&◌, refl, sym, ◌∙◌, ap, subst, arith, nat_lt}
-use Rattle.std.specs.Prelude.{find, IsSomeAnd}
-use Rattle.std.specs.List.{AllByRecursion, AllZip, filter_map, list_any, cons_option}
+use Rattle.std.proofs.Common.{◌≡◌, ◌⊎◌, inl, inr, ℕ, zero, suc, ◌+◌, ◌≤◌, List, [], ◌∷◌, ◌++◌, drop, Option, None, Some, Bool, true, false, cond, ◌||◌, ◌&&◌, refl, sym, ◌∙◌, ap, subst, arith, nat_lt}
+use Rattle.std.specs.Prelude.{IsSomeAnd}
+use Rattle.std.specs.List.{AllByRecursion, filter_map, list_any, cons_option}
 use Rattle.std.proofs.lemmas.Bool.{le-ltb, lt-ltb}
 use Rattle.basics.specs.declared.stream.StreamId.{StreamId}
 use Rattle.outside.specs.Tables.{same_id}
-use Rattle.outside.proofs.TableLaws.{id_apart, id_is, id_own}
+use Rattle.outside.proofs.TableLaws.{id_apart, id_is}
 use Rattle.stream_index.specs.Same.{is_same_stream}
 use Rattle.stream_index.proofs.IndexLemmas.{Decides-stream}
 use Rattle.airbyte_message.specs.Lanes.{Lane, one, all, lane_of}
@@ -18,11 +18,11 @@ use Rattle.airbyte_message.specs.declared.message.StateKind.TheVariants as kind
 use Rattle.state_kinds.specs.Store.{is_global_kind, is_stream_kind, repeats_stream}
 use Rattle.state_kinds.specs.StateLists.{list_fault, stream_of}
 use Rattle.load_rules.specs.Lines.{Line, state_in}
-use Rattle.load_rules.specs.Taken.{is_of_lane, is_same_lane}
-use Rattle.local_world.specs.Starts.{AreStarts, Holds, ReachTo, Start, StartsBehind}
+use Rattle.load_rules.specs.Taken.{is_of_lane}
+use Rattle.local_world.specs.Starts.{AreStarts, ReachTo, Start, StartsBehind}
 use Rattle.local_world.specs.Left.{has_state, is_left_out, is_of, left_behind, left_from}
 use Rattle.local_world.specs.Replay.{IsReplayable, is_kind_of, of_lane, started, states_in}
-use Rattle.local_world.proofs.StartedLemmas.{AreStreams, IsOneGlobal, None_Some, Some-injective, are_sound, by_bool, global_lane, ids_first, or_false, stream_kind, true_false, two_kinds}
+use Rattle.local_world.proofs.StartedLemmas.{AreStreams, IsOneGlobal, Some-injective, are_sound, by_bool, global_lane, ids_first, or_false, stream_kind, true_false, two_kinds}
 
 -- ---- one lane's messages are of no other stream's lane
 

@@ -1,32 +1,15 @@
 -- What is left of a lane's lines behind its start.
-use Rattle.std.proofs.Common.{◌≡◌, ◌≢◌, ◌⊎◌, inl, inr, ℕ, zero, suc, ◌+◌, ◌-◌, ◌<◌, ◌≤◌, List, [], ◌∷◌, ◌++◌, map, length, take, drop, filter, Option, None, Some, Bool, true, false, cond, not, ◌||◌, ◌&&◌, refl, sym, ◌∙◌, ap, subst, arith, nat_lt, append_assoc, length-append, get_or}
-use Rattle.std.specs.Prelude.{find, is_some}
-use Rattle.std.specs.List.{AllByRecursion, AllPairs, AllZip, cons_option, filter_map, list_any}
-use Rattle.std.proofs.lemmas.Bool.{le-ltb, lt-ltb}
-use Rattle.std.proofs.lemmas.List.{append-nil, take-append-drop, drop_at}
-use Rattle.std.proofs.lemmas.List.Elements.{filter-append, filter_map-append}
-use Rattle.basics.specs.declared.stream.StreamId.{StreamId}
-use Rattle.outside.specs.Tables.{same_id}
-use Rattle.outside.proofs.TableLaws.{id_apart, id_is, id_own}
-use Rattle.stream_index.specs.Same.{is_same_stream}
-use Rattle.stream_index.proofs.IndexLemmas.{Decides-stream}
-use Rattle.airbyte_message.specs.Lanes.{Lane, one, all, lane_of}
-use Rattle.airbyte_message.specs.Same.{IsSameKind, Same}
-use Rattle.airbyte_message.specs.State.{State}
+use Rattle.std.proofs.Common.{◌≡◌, ℕ, ◌+◌, List, [], ◌∷◌, Option, None, Some, Bool, true, false, cond, not, ◌||◌, ◌&&◌, refl, sym, ◌∙◌, ap, nat_lt}
+use Rattle.std.specs.Prelude.{is_some}
+use Rattle.airbyte_message.specs.Lanes.{Lane}
 use Rattle.airbyte_message.specs.declared.message.Message.{Message}
 use Rattle.airbyte_message.specs.declared.message.Message.TheVariants as message
-use Rattle.airbyte_message.specs.declared.message.RecordMsg.{RecordMsg}
-use Rattle.airbyte_message.specs.declared.message.StateKind.{StateKind}
-use Rattle.airbyte_message.specs.declared.message.StateKind.TheVariants as kind
-use Rattle.state_kinds.specs.Store.{is_global_kind, is_stream_kind, repeats_stream}
-use Rattle.state_kinds.specs.StateLists.{list_fault, stream_of}
 use Rattle.load_rules.specs.Lines.{Line, record_in, state_in}
-use Rattle.load_rules.specs.Taken.{covers, is_of_lane, is_same_lane}
-use Rattle.local_world.specs.Starts.{AreStarts, Holds, IsNowhere, ReachTo, Start, StartsBehind}
-use Rattle.local_world.specs.Left.{has_state, is_left_out, is_of, left_behind, left_from}
+use Rattle.local_world.specs.Starts.{Start}
+use Rattle.local_world.specs.Left.{is_left_out, is_of, left_from}
 use Rattle.local_world.specs.Replay.{is_kept_line, others_in}
 use Rattle.local_world.specs.Laws.{OthersStay}
-use Rattle.local_world.proofs.StartedLemmas.{None_Some, Some-injective, by_bool, true_false}
+use Rattle.local_world.proofs.StartedLemmas.{by_bool, true_false}
 
 -- ---- lines that are neither records nor states
 

@@ -1,5 +1,5 @@
 -- A file behind its states gives the rest of each lane, with each state at its own place.
-use Rattle.std.proofs.Common.{◌≡◌, ◌≢◌, ◌⊎◌, inl, inr, ℕ, zero, suc, ◌+◌, ◌<◌, ◌≤◌, List, [], ◌∷◌, ◌++◌, length, take, drop, filter, get_or, Option, None, Some, Bool, true, false, cond, refl, sym, ◌∙◌, ap, subst, arith, append_assoc, length-append}
+use Rattle.std.proofs.Common.{◌≡◌, ◌⊎◌, inl, inr, ℕ, suc, ◌+◌, List, [], ◌∷◌, ◌++◌, length, take, drop, filter, get_or, Option, None, Some, Bool, true, false, cond, refl, sym, ◌∙◌, ap, subst, arith, append_assoc, length-append}
 use Rattle.std.specs.Prelude.{IfSome, IsSomeAnd}
 use Rattle.std.specs.List.{AllByRecursion, AllPairs, cons_option, filter_map}
 use Rattle.std.proofs.lemmas.List.{append-nil, take-append-drop, drop_at}
@@ -18,10 +18,10 @@ use Rattle.airbyte_message.proofs.SameLemmas.{same_onward, same_turned}
 use Rattle.load_rules.specs.Taken.{covers, is_of_lane, is_same_lane}
 use Rattle.local_world.specs.Starts.{Holds, IsNowhere, ReachTo}
 use Rattle.local_world.specs.Left.{has_state, is_of, left_behind}
-use Rattle.local_world.specs.Replay.{GivesRest, HasPlace, IsReplayable, StartsAt, of_lane, records_of, started, states_in}
+use Rattle.local_world.specs.Replay.{HasPlace, IsReplayable, StartsAt, of_lane, records_of, started, states_in}
 use Rattle.local_world.specs.Laws.{FilesReplay, FilesResume}
 use Rattle.local_world.proofs.StartedLemmas.{None_Some, Some-injective, by_bool, true_false}
-use Rattle.local_world.proofs.LaneLemmas.{LaneStart, lane_left, lane_start}
+use Rattle.local_world.proofs.LaneLemmas.{lane_left, lane_start}
 
 -- ---- the records of a lane
 

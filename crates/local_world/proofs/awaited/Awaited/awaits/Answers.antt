@@ -1,7 +1,5 @@
-use Rattle.std.proofs.Common.{◌≡◌, ℕ, Option, None, Some, List, length, sym, ap, ◌∙◌, subst, refl}
-use Rattle.std.specs.Prelude.{is_none}
-use Rattle.airbyte_message.specs.State.{State}
-use Rattle.local_world.specs.Awaited.{IsOnlyAt, is_awaited, state_has}
+use Rattle.std.proofs.Common.{ℕ, Option, None, Some, ◌∙◌, subst}
+use Rattle.local_world.specs.Awaited.{IsOnlyAt, state_has}
 use Rattle.local_world.proofs.AwaitLemmas.{is_none_of, record_passed, waits, waits_not}
 use Rattle.local_world.proofs.awaited.Awaited.awaits.Goals as goal
 

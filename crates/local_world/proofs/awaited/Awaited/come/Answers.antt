@@ -1,7 +1,7 @@
-use Rattle.std.proofs.Common.{◌≡◌, ℕ, ◌+◌, ◌<◌, ◌≤◌, Option, None, Some, List, length, sym, ap, ◌∙◌, subst, refl, arith, slice_get}
+use Rattle.std.proofs.Common.{◌≡◌, None, Some, sym, ◌∙◌, subst, arith, slice_get}
 use Rattle.std.proofs.lemmas.List.{length-set}
 use Rattle.std.proofs.lemmas.Option.{slice_get_within}
-use Rattle.local_world.specs.Awaited.{Awaited, count_missing}
+use Rattle.local_world.specs.Awaited.{Awaited}
 use Rattle.local_world.proofs.AwaitLemmas.{missing_less, missing_one}
 use Rattle.local_world.proofs.awaited.Awaited.come.Goals as goal
 

@@ -1,4 +1,4 @@
-use Rattle.std.proofs.Common.{◌≡◌, None, List, Option, ℕ, length, replicate, ap, sym, ◌∙◌}
+use Rattle.std.proofs.Common.{None, List, length, ap, sym, ◌∙◌}
 use Rattle.std.proofs.lemmas.List.{length-replicate}
 use Rattle.std.specs.List.{filter_map}
 use Rattle.airbyte_message.specs.State.{State}

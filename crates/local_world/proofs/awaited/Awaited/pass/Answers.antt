@@ -1,6 +1,6 @@
-use Rattle.std.proofs.Common.{Option, None, Some, refl, sym, ap, subst, ◌∙◌}
+use Rattle.std.proofs.Common.{Option, None, sym, subst}
 use Rattle.std.specs.Prelude.{option_map}
-use Rattle.airbyte_message.specs.Views.{message_at, record_at}
+use Rattle.airbyte_message.specs.Views.{message_at}
 use Rattle.airbyte_message.specs.declared.view.MessageView.{MessageView}
 use Rattle.local_world.specs.Awaited.{Passes}
 use Rattle.local_world.proofs.awaited.Awaited.pass.Goals as goal

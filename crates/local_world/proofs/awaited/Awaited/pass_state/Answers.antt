@@ -1,4 +1,4 @@
-use Rattle.std.proofs.Common.{◌≡◌, ℕ, Option, None, Some, List, length, sym, ap, ◌∙◌, subst, refl}
+use Rattle.std.proofs.Common.{ℕ, Option, None, Some, sym, ap, ◌∙◌}
 use Rattle.local_world.proofs.awaited.Awaited.pass_state.Goals as goal
 use Rattle.local_world.specs.Awaited.{Awaited}
 use Rattle.local_world.proofs.StartedLemmas.{true_false}

@@ -1,7 +1,6 @@
-use Rattle.std.proofs.Common.{◌≡◌, ℕ, ◌<◌, ◌≤◌, Option, None, Some, List, length, sym, ap, ◌∙◌, subst, arith, IfSome, IfNone}
+use Rattle.std.proofs.Common.{◌≡◌, ◌≤◌, Option, None, Some, length, sym, ap, ◌∙◌, subst, arith}
 use Rattle.std.specs.Option.{option_copied}
 use Rattle.basics.specs.declared.stream.StreamId.{StreamId}
-use Rattle.airbyte_message.specs.State.{State}
 use Rattle.local_world.specs.Awaited.{Awaited, IsOnlyAt, state_has}
 use Rattle.local_world.proofs.StartedLemmas.{are_sound, found_place, global_place, streamless_place}
 use Rattle.local_world.proofs.AwaitLemmas.{is_within}
