@@ -1,0 +1,112 @@
+// A file of lines as a source.
+ghost use Rattle.std.specs.Prelude.{◌≡◌};
+
+use crate::front::restart;
+use crate::left_lines::LeftLines;
+use basics::Bytes;
+use outside::{Exit, Feed, Status};
+use std::alloc::Global;
+use std::marker::Model;
+
+/// A source that gives the lines of a file, from where saved states say.
+///
+/// Begun with states, it leaves out for each of them the records and states of its stream, or for a state of all streams every
+/// record and state, up to the first line that holds the same state, and that line too. All other lines stay. It tells what it
+/// will give. The catalog is not looked at, since a file has the lines that it has. A new feed gives all lines.
+#[derive(Drop)]
+pub struct MessageFeed {
+    lines: LeftLines,
+    ended: Option<Status>,
+}
+
+impl Model for MessageFeed {
+    ghost use Rattle.std.specs.Prelude.{Some};
+    ghost use Rattle.local_world.specs.Begun.{Replay, left_until};
+
+    ghost Value = { Replay };
+
+    ghost view = { λ feed. record { text = feed.lines.text; seen = record { left = Some (left_until feed.ended feed.lines.left); ended = feed.ended; faults = 0 } } };
+}
+
+impl MessageFeed {
+    ghost use Rattle.std.specs.Prelude.{◌≡◌, None, IfOk};
+    ghost use Rattle.outside.specs.Feed.{GivesNext};
+    ghost use Rattle.text_lines.specs.Lines.{lines_of};
+    ghost use Rattle.local_world.specs.Begun.{gives_all};
+
+    /// A feed over the lines of a text, which gives all of them.
+    pub fn new(alloc: Global, text: Bytes) -> Self
+        ensures { result ≡ record { text = text; seen = gives_all (lines_of text) } }
+    {
+        MessageFeed {
+            lines: LeftLines::new(alloc, text),
+            ended: None,
+        }
+    }
+
+    // The next line of a feed that has not ended.
+    fn give_line(&mut self, alloc: Global) -> Result<Option<Bytes>, Status>
+        requires { self.old.seen.ended ≡ None }
+        ensures next { GivesNext result self.old.seen self.new.seen }
+        ensures text { self.new.text ≡ self.old.text }
+    {
+        let found = self.lines.next_line(alloc).map_err(|_| Status::NoMemory)?;
+        if found.is_none() {
+            self.ended = Some(Status::Ok);
+        }
+        Ok(found)
+    }
+}
+
+impl Feed for MessageFeed {
+    ghost use Rattle.std.specs.Prelude.{◌≡◌, None, Err, IfErr, IfSome, IsSomeAnd, OnOk, is_some};
+    ghost use Rattle.basics.specs.Told.{RoseIf};
+    ghost use Rattle.outside.specs.Feed.{AnswersAgain, GivesNext, ended_with};
+    ghost use Rattle.local_world.specs.Begun.{Begins, Refuses};
+
+    ghost seen = { λ feed. feed.seen };
+
+    // What the feed will give, by the array of states; and a refusal's cause.
+    fn begin(&mut self, alloc: Global, _catalog: &[u8], states: &[u8]) -> Result<(), Status>
+        ensures ok { OnOk result (self.new.seen.ended ≡ None) }
+        ensures refused { IfErr result (λ why. self.new.seen ≡ record (ended_with why self.old.seen) { faults = self.new.seen.faults }) }
+        ensures no_refusal { ¬ (result ≡ Err Status.Ok) }
+        ensures told { is_some self.new.seen.left ≡ is_some self.old.seen.left }
+        ensures faults { RoseIf (result ≡ Err Status.RowFault) self.old.seen.faults self.new.seen.faults }
+        ensures stays { ¬ (result ≡ Err Status.RowFault) → self.new.seen.faults ≡ self.old.seen.faults }
+        ensures begins { OnOk result (IsSomeAnd self.new.seen.left (Begins self.old.text states.now)) }
+        ensures refuses { IfErr result (Refuses self.old.text states.now) }
+        ensures text { self.new.text ≡ self.old.text }
+    {
+        match restart(alloc, &mut self.lines, states) {
+            Ok(()) => {
+                self.ended = None;
+                Ok(())
+            }
+            Err(fault) => {
+                let why = Status::from(fault);
+                self.ended = Some(why);
+                Err(why)
+            }
+        }
+    }
+
+    fn next_line(&mut self, alloc: Global) -> Result<Option<Bytes>, Status>
+        ensures again { IfSome self.old.seen.ended (λ why. AnswersAgain result why self.old.seen self.new.seen) }
+        ensures next { self.old.seen.ended ≡ None → GivesNext result self.old.seen self.new.seen }
+        ensures text { self.new.text ≡ self.old.text }
+    {
+        match self.ended {
+            Some(Status::Ok) => Ok(None),
+            Some(why) => Err(why),
+            None => self.give_line(alloc),
+        }
+    }
+
+    fn exit(&self) -> Exit {
+        match self.ended {
+            Some(why) => Exit::Code(why.number()),
+            None => unreachable!(),
+        }
+    }
+}
