@@ -8,6 +8,7 @@ pub mod Digits
 pub mod First
 pub mod Inside
 pub mod Lanes
+pub mod ListReading
 pub mod Numbers
 pub mod Parts
 pub mod Places

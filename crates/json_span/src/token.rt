@@ -563,13 +563,13 @@ impl Machine {
         }
     }
 
-    /// Reads the object that a text begins with, and no further than to its end; where it is none, to where that shows
-    /// or to the end of the text.
-    pub fn read_front(&mut self, text: &[u8]) -> Result<usize, NoMemory>
-        ensures read { IfOk result (λ to. self.new ≡ read_to text.now (initial frame.Object) 0 to) }
+    /// Reads the object or the array that a text begins with, and no further than to its end; where it is none, to where
+    /// that shows or to the end of the text.
+    pub fn read_front(&mut self, text: &[u8], wanted: Frame) -> Result<usize, NoMemory>
+        ensures read { IfOk result (λ to. self.new ≡ read_to text.now (initial wanted) 0 to) }
         ensures place { IfOk result (λ to. to ≤ length text.now) }
     {
-        self.restart(Frame::Object);
+        self.restart(wanted);
         let mut at = 0;
         while at < text.len() && !is_over(self.phase) {
             at = self.take(text, at)?;
