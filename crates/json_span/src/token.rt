@@ -394,7 +394,7 @@ impl Machine {
     }
 
     /// Reads the end of a key, the colon right behind it and the value right behind that, or as much of the value as
-    /// stands here. An object is left to be read.
+    /// stands here. An object or an array is left to be read.
     #[inline(always)]
     fn take_near(&mut self, text: &[u8], at: usize) -> Result<usize, NoMemory>
         requires place { at + 2 < length text.now }
@@ -407,7 +407,7 @@ impl Machine {
         let colon = at + 1;
         self.make_one(text, colon, Move::Go(Phase::Value))?;
         let value = colon + 1;
-        if text[value] == b'{' {
+        if text[value] == b'{' || text[value] == b'[' {
             return Ok(value);
         }
         self.take_value(text, value)
@@ -446,7 +446,7 @@ impl Machine {
             return Ok(colon);
         }
         let value = self.make_at(text, colon, Move::Go(Phase::Value))?;
-        if value == text.len() || text[value] == b'{' {
+        if value == text.len() || text[value] == b'{' || text[value] == b'[' {
             return Ok(value);
         }
         self.take_value(text, value)
