@@ -6,6 +6,7 @@ pub mod Classes
 pub mod Complete
 pub mod Digits
 pub mod First
+pub mod FirstArray
 pub mod Inside
 pub mod Lanes
 pub mod ListReading

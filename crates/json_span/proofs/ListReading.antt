@@ -10,7 +10,7 @@ use Rattle.json_span.specs.Members.{IsMemberOf, text_at}
 use Rattle.json_span.specs.Elements.{IsArrayValue}
 use Rattle.json_span.specs.Machine.{value_begun, ending, value_ended, over, between, read_to, read_whole, initial, run, IsDone, IsTaken}
 use Rattle.json_span.specs.Reading.{passed}
-use Rattle.json_span.specs.Lists.{IsArrayCutInto, IsListed, IsListRead, IsListReadAlone}
+use Rattle.json_span.specs.Lists.{IsArrayCutInto, IsListRead, IsListReadAlone}
 use Rattle.json_span.specs.declared.Span.{Span}
 use Rattle.json_span.specs.declared.Member.{Member}
 use Rattle.json_span.specs.declared.phase.Frame.{Frame}
@@ -186,24 +186,19 @@ keeps_list text m at to deep spans k alone =
     subst (λ (l : List Member). IsListRead text l (Some (length outer)) spans) (sym now) (one, get_at outer one, alone)
 
 -- What was read alone is cut as a text of its own.
-pub is_listed : (text : List ℕ) (members : List Member) (listed : Option ℕ) (spans : List Span) → All (IsMemberOf text) members → IsListRead text members listed spans → IsListed 127 text members listed spans
-is_listed text members None spans parts r = tt
-is_listed text members (Some index) spans parts r =
+pub read_cut : (text : List ℕ) (members : List Member) (index : ℕ) (spans : List Span) → All (IsMemberOf text) members → (r : IsListRead text members (Some index) spans) → IsArrayCutInto 127 (text_at text r.0.value) spans
+read_cut text members index spans parts r =
     let value = text_at text r.0.value in
     let m = read_whole frame.Array value in
     let part = subst (λ (n : Member). IsMemberOf text n) (get_is members index r.0 r.0 r.1) (parts index r.0 (slice_get_within members index r.0 r.1)) in
     let utf8 = part.value.utf8 in
     let a = r.2 in
-    record {
-      member = r.0;
-      at = r.1;
-      cut = subst (λ (l : List Span). IsArrayCutInto 127 value l) (sym a.cut)
-          (record {
-            found = finds_array value m refl utf8 a.done 127 a.shallow;
-            only = finds_only_array value m refl 127 a.shallow;
-            parts = are_elements value m.deepest m.cutter.elements (read_array value m refl utf8 a.done);
-          });
-    }
+    subst (λ (l : List Span). IsArrayCutInto 127 value l) (sym a.cut)
+    (record {
+      found = finds_array value m refl utf8 a.done 127 a.shallow;
+      only = finds_only_array value m refl 127 a.shallow;
+      parts = are_elements value m.deepest m.cutter.elements (read_array value m refl utf8 a.done);
+    })
   where
     get_is : (xs : List Member) (k : ℕ) (m d : Member) → slice_get xs k ≡ Some m → get_or xs k d ≡ m
     get_is [] k m d e = absurd (cc e)

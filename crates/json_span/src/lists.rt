@@ -2,24 +2,26 @@
 // member's value begins as an array another reads that, so that each byte is read once.
 ghost use Rattle.std.specs.Prelude.{◌≡◌, All, IfOk, IsErrOf};
 ghost use Rattle.json_span.specs.Members.{AreMembers, HasOnlyMembers, IsMemberOf, IsNoObject, IsDeeper};
-ghost use Rattle.json_span.specs.Lists.{IsListed};
+ghost use Rattle.json_span.specs.Elements.{IsSomeArray, IsDeeperArray};
+ghost use Rattle.json_span.specs.Lists.{AreShallowArrays, IsArrayCutInto, IsFirst, IsListed, IsListRead};
 
+use crate::array::{elements_within, is_array};
 use crate::machine::Machine;
 use crate::phase::{Frame, Phase, Run, is_done};
 use crate::skip::skip;
-use crate::{MAX_DEPTH, MemberList, SpanFault, SpanList};
-use basics::NoMemory;
+use crate::{MAX_DEPTH, Member, MemberList, SpanFault, SpanList};
+use basics::{NoMemory, Sequence};
 use std::alloc::Global;
 
-/// An object's members, and the elements of an array that the value of one of them is.
+/// An object's members, and the elements of the first of their values that is an array.
 #[derive(Drop)]
 pub struct ListedMembers {
     pub members: MemberList,
 
-    /// The index of the member whose value was cut on the way, if one was.
+    /// The index of the first member whose value is an array, if one is.
     pub listed: Option<usize>,
 
-    /// The elements of that value, with places from where it begins.
+    /// The elements of that value, with places from where it begins; none where no value is an array.
     pub elements: SpanList,
 }
 
@@ -122,6 +124,56 @@ impl ListReader {
     }
 }
 
+// The index of the first member whose value is an array.
+fn first_array(text: &[u8], members: &[Member]) -> Option<usize>
+    requires { All (IsMemberOf text.now) members.now }
+    ensures { IsFirst text.now members.now result }
+{
+    for (index, member) in members.iter().enumerate() {
+        if is_array(member.value.of(text)) {
+            return Some(index);
+        }
+    }
+    None
+}
+
+// The elements of the first array: what was read on the way where that is it.
+fn array_at(
+    alloc: Global,
+    text: &[u8],
+    members: &[Member],
+    first: Option<usize>,
+    listed: Option<usize>,
+    read: SpanList,
+) -> Result<SpanList, NoMemory>
+    requires parts { All (IsMemberOf text.now) members.now }
+    requires shallow { AreShallowArrays MAX_DEPTH text.now members.now }
+    requires first { IsFirst text.now members.now first }
+    requires read { IsListRead text.now members.now listed read }
+    ensures { IfOk result (IsListed MAX_DEPTH text.now members.now first) }
+{
+    match (first, listed) {
+        (None, _) => Ok(Sequence::new(alloc)),
+        (Some(index), Some(place)) if index == place => Ok(read),
+        (Some(index), _) => cut_array(alloc, members[index].value.of(text)),
+    }
+}
+
+// The elements of a value that is an array.
+fn cut_array(alloc: Global, value: &[u8]) -> Result<SpanList, NoMemory>
+    requires array { IsSomeArray value.now }
+    requires shallow { ¬ IsDeeperArray MAX_DEPTH value.now }
+    ensures { IfOk result (IsArrayCutInto MAX_DEPTH value.now) }
+{
+    match elements_within(alloc, value, MAX_DEPTH) {
+        Ok(found) => Ok(found),
+        Err(SpanFault::NotArray) => unreachable!(),
+        Err(SpanFault::NotObject) => unreachable!(),
+        Err(SpanFault::TooDeep) => unreachable!(),
+        Err(SpanFault::NoMemory) => Err(NoMemory),
+    }
+}
+
 /// Cuts an object that nests at most 127 deep into its members, as `members` does, and in the same pass the first of its
 /// values that is an array into its elements.
 pub fn members_and_list(alloc: Global, text: &[u8]) -> Result<ListedMembers, SpanFault>
@@ -151,9 +203,18 @@ pub fn members_and_list(alloc: Global, text: &[u8]) -> Result<ListedMembers, Spa
     } = reader;
     let outer = outside.cutter;
     let inner = inside.cutter;
+    let first = first_array(text, outer.members.as_slice());
+    let elements = array_at(
+        alloc,
+        text,
+        outer.members.as_slice(),
+        first,
+        listed,
+        inner.elements,
+    )?;
     Ok(ListedMembers {
         members: outer.members,
-        listed,
-        elements: inner.elements,
+        listed: first,
+        elements,
     })
 }

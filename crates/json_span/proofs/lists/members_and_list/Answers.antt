@@ -1,6 +1,11 @@
+use Rattle.std.proofs.Common.{List, subst, sym}
+use Rattle.std.specs.Prelude.{All}
+use Rattle.json_span.specs.Members.{IsMemberOf}
+use Rattle.json_span.specs.Lists.{AreShallowArrays}
+use Rattle.json_span.specs.declared.Member.{Member}
+use Rattle.json_span.proofs.FirstArray.{are_shallow}
 use Rattle.json_span.proofs.Theorems.{finds, finds_only, finds_none, finds_deeper, read_object}
 use Rattle.json_span.proofs.Parts.{are_parts}
-use Rattle.json_span.proofs.ListReading.{is_listed}
 use Rattle.json_span.proofs.lists.members_and_list.Goals as goal
 
 pub returns-then-not-is_done-clause-not_object : goal.returns-then-not-is_done-clause-not_object
@@ -20,9 +25,20 @@ returns-clause-parts c =
     let m = c.read.new.self.outside in
     are_parts c.args.text.now m.deepest m.cutter.members (read_object c.args.text.now m c.in_ok-read.ensures.outside (c.is_utf8.ensures.0 c.if-not-is_utf8.false) (c.is_done.ensures.0 c.if-not-is_done.false))
 
-pub returns-clause-list : goal.returns-clause-list
-returns-clause-list c =
+pub first_array-first-requires : goal.first_array-first-requires
+first_array-first-requires c =
     let m = c.read.new.self.outside in
-    is_listed c.args.text.now m.cutter.members c.read.new.self.listed c.read.new.self.inside.cutter.elements
+    subst (λ (l : List Member). All (IsMemberOf c.args.text.now) l) (sym c.as_slice.ensures)
     (are_parts c.args.text.now m.deepest m.cutter.members (read_object c.args.text.now m c.in_ok-read.ensures.outside (c.is_utf8.ensures.0 c.if-not-is_utf8.false) (c.is_done.ensures.0 c.if-not-is_done.false)))
-    c.in_ok-read.ensures.list
+
+pub array_at-requires-clause-parts : goal.array_at-requires-clause-parts
+array_at-requires-clause-parts c =
+    let m = c.read.new.self.outside in
+    subst (λ (l : List Member). All (IsMemberOf c.args.text.now) l) (sym c.as_slice-2.ensures)
+    (are_parts c.args.text.now m.deepest m.cutter.members (read_object c.args.text.now m c.in_ok-read.ensures.outside (c.is_utf8.ensures.0 c.if-not-is_utf8.false) (c.is_done.ensures.0 c.if-not-is_done.false)))
+
+pub array_at-requires-clause-shallow : goal.array_at-requires-clause-shallow
+array_at-requires-clause-shallow c =
+    let m = c.read.new.self.outside in
+    subst (λ (l : List Member). AreShallowArrays 127 c.args.text.now l) (sym c.as_slice-2.ensures)
+    (are_shallow 127 c.args.text.now m.cutter.members (finds c.args.text.now m c.in_ok-read.ensures.outside (c.is_utf8.ensures.0 c.if-not-is_utf8.false) (c.is_done.ensures.0 c.if-not-is_done.false) 127 c.if-reader-gt-MAX_DEPTH.false))
