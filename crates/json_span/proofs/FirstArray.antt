@@ -1,5 +1,5 @@
 -- The first of an object's values that is an array: none nests too deep, and what was read on the way is its elements.
-use Rattle.std.proofs.Common.{◌≡◌, ℕ, zero, suc, ◌+◌, ◌<◌, ◌≤◌, ◌⊎◌, inl, inr, List, [], Option, None, Some, Result, Ok, Err, length, get_or, refl, sym, ap, subst, ◌∙◌, arith, append-nil}
+use Rattle.std.proofs.Common.{◌≡◌, ℕ, zero, suc, ◌+◌, ◌<◌, ◌≤◌, ◌⊎◌, inl, inr, List, [], Option, Some, Result, Ok, Err, length, get_or, refl, sym, ap, subst, ◌∙◌, arith, append-nil}
 use Rattle.std.specs.Prelude.{All, IfOk}
 use Rattle.std.specs.List.{slice_get}
 use Rattle.json_span.specs.Grammar.{value_text, depth}

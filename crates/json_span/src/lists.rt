@@ -1,9 +1,9 @@
 // Reading an object and the first of its values that is an array in one pass: one machine reads the text, and where a
 // member's value begins as an array another reads that, so that each byte is read once.
-ghost use Rattle.std.specs.Prelude.{◌≡◌, All, IfOk, IsErrOf};
+ghost use Rattle.std.specs.Prelude.{◌≡◌, Some, All, IfOk, IsErrOf};
 ghost use Rattle.json_span.specs.Members.{AreMembers, HasOnlyMembers, IsMemberOf, IsNoObject, IsDeeper};
 ghost use Rattle.json_span.specs.Elements.{IsSomeArray, IsDeeperArray};
-ghost use Rattle.json_span.specs.Lists.{AreShallowArrays, IsArrayCutInto, IsFirst, IsListed, IsListRead};
+ghost use Rattle.json_span.specs.Lists.{AreShallowArrays, IsArrayCutInto, IsFirst, IsFirstArray, IsListed, IsListRead};
 
 use crate::array::{elements_within, is_array};
 use crate::machine::Machine;
@@ -137,6 +137,21 @@ fn first_array(text: &[u8], members: &[Member]) -> Option<usize>
     None
 }
 
+// The elements of the first array among the values.
+fn cut_at(
+    alloc: Global,
+    text: &[u8],
+    members: &[Member],
+    index: usize,
+) -> Result<SpanList, NoMemory>
+    requires parts { All (IsMemberOf text.now) members.now }
+    requires shallow { AreShallowArrays MAX_DEPTH text.now members.now }
+    requires first { IsFirstArray text.now members.now index }
+    ensures { IfOk result (IsListed MAX_DEPTH text.now members.now (Some index)) }
+{
+    cut_array(alloc, members[index].value.of(text))
+}
+
 // The elements of the first array: what was read on the way where that is it.
 fn array_at(
     alloc: Global,
@@ -152,10 +167,12 @@ fn array_at(
     requires read { IsListRead text.now members.now listed read }
     ensures { IfOk result (IsListed MAX_DEPTH text.now members.now first) }
 {
-    match (first, listed) {
-        (None, _) => Ok(Sequence::new(alloc)),
-        (Some(index), Some(place)) if index == place => Ok(read),
-        (Some(index), _) => cut_array(alloc, members[index].value.of(text)),
+    let Some(index) = first else {
+        return Ok(Sequence::new(alloc));
+    };
+    match listed {
+        Some(place) if place == index => Ok(read),
+        _ => cut_at(alloc, text, members, index),
     }
 }
 

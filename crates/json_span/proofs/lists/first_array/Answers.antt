@@ -1,4 +1,4 @@
-use Rattle.std.proofs.Common.{get_or, sym, true, false, ◌∙◌}
+use Rattle.std.proofs.Common.{get_or}
 use Rattle.std.proofs.lemmas.Option.{slice_get-get_or}
 use Rattle.json_span.specs.declared.Member.{Member}
 use Rattle.json_span.proofs.FirstArray.{none_before, none_more, none_at_all, first_here}

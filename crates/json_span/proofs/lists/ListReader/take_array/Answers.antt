@@ -1,4 +1,4 @@
-use Rattle.std.proofs.Common.{List, Option, Some, ◌+◌, ◌-◌, length, take, drop, refl, subst, sym, ap}
+use Rattle.std.proofs.Common.{Some, ◌+◌, ◌-◌, length, take, drop, refl, subst, sym}
 use Rattle.json_span.specs.Lists.{IsListRead}
 use Rattle.json_span.specs.declared.machine.Machine.{Machine}
 use Rattle.json_span.proofs.Reading.{object_taken}
