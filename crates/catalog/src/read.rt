@@ -11,8 +11,8 @@ use crate::Configured;
 use crate::judge::judged;
 use crate::members::entry_of;
 use basics::{Bytes, MOST_STREAMS};
-use json_fields::{cut, cut_list, field};
-use json_span::{DeepMembers, MAX_DEPTH, Span};
+use json_fields::{cut_with_list, elements_at, place_of};
+use json_span::{DeepMembers, Span};
 use outside::CatalogFault;
 use std::alloc::Global;
 
@@ -63,13 +63,16 @@ pub fn read_configured(alloc: Global, text: &[u8]) -> Result<Configured, Catalog
     ensures read { IfOk result (λ configured. IsOnly (ReadsAs text.now) (Ok configured)) }
     ensures refused { IfErr result (λ fault. fault ≢ CatalogFault.NoMemory → IsOnly (ReadsAs text.now) (Err fault)) }
 {
-    let Some(members) = cut(alloc, text, MAX_DEPTH)? else {
+    let Some(cut) = cut_with_list(alloc, text)? else {
         return Err(CatalogFault::NotJson);
     };
-    let Some(list) = field(alloc, text, &members, "streams")? else {
+    let members = cut.members.as_slice();
+    let Some(place) = place_of(alloc, text, members, "streams")? else {
         return Err(CatalogFault::NotJson);
     };
-    let Some(spans) = cut_list(alloc, list, MAX_DEPTH)? else {
+    let member = members[place];
+    let list = member.value.of(text);
+    let Some(spans) = elements_at(alloc, list, cut, place)? else {
         return Err(CatalogFault::NotJson);
     };
     if spans.len() > MOST_STREAMS {

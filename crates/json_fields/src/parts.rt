@@ -1,7 +1,9 @@
 // Members by what they hold.
-ghost use Rattle.std.specs.Prelude.{◌≡◌, ◌↔◌, ◌≤◌, List, IfNone, IfOk, IfSome, IsTrue, option_map};
+ghost use Rattle.std.specs.Prelude.{◌≡◌, ◌↔◌, ◌≤◌, List, IfNone, IfOk, IfSome, IsTrue, Some, option_map};
 ghost use Rattle.std.specs.Option.{option_copied};
-ghost use Rattle.json_span.specs.Members.{IsValue};
+ghost use Rattle.json_span.specs.Members.{AreMembers, IsValue};
+ghost use Rattle.json_span.specs.Lists.{IsArrayCutInto, IsListed};
+ghost use Rattle.json_span.specs.declared.Member.{Member};
 ghost use Rattle.json_span.specs.Elements.{AreElements};
 ghost use Rattle.json_span.specs.declared.Span.{Span};
 ghost use Rattle.json_fields.specs.Answer.{IsAnswer};
@@ -11,7 +13,8 @@ ghost use Rattle.json_fields.specs.Parts.{HasArray, HasCount, HasObject, HasOpti
 use crate::{field, optional};
 use basics::NoMemory;
 use json_span::{
-    MAX_DEPTH, MemberList, SpanFault, SpanList, elements_within, is_array, is_object, whole_of,
+    ListedMembers, MAX_DEPTH, MemberList, SpanFault, SpanList, elements_within, is_array,
+    is_object, members_and_list, whole_of,
 };
 use std::alloc::Global;
 
@@ -122,5 +125,39 @@ pub fn cut_list(alloc: Global, text: &[u8], limit: usize) -> Result<Option<SpanL
         Err(SpanFault::TooDeep) => Ok(None),
         Err(SpanFault::NotObject) => unreachable!(),
         Err(SpanFault::NoMemory) => Err(NoMemory),
+    }
+}
+
+/// An object that nests at most 127 deep, cut together with the first of its values that is an array; `None` where the text
+/// is none.
+pub fn cut_with_list(alloc: Global, text: &[u8]) -> Result<Option<ListedMembers>, NoMemory>
+    ensures cut { IfOk result (λ found. IfSome found (λ cut. IsCut text.now cut.members)) }
+    ensures list { IfOk result (λ found. IfSome found (λ cut. IsListed MAX_DEPTH text.now cut.members cut.listed cut.elements)) }
+    ensures none { IfOk result (λ found. IfNone found ((members : List Member) → ¬ AreMembers MAX_DEPTH text.now members)) }
+{
+    match members_and_list(alloc, text) {
+        Ok(cut) => Ok(Some(cut)),
+        Err(SpanFault::NotObject) => Ok(None),
+        Err(SpanFault::TooDeep) => Ok(None),
+        Err(SpanFault::NotArray) => unreachable!(),
+        Err(SpanFault::NoMemory) => Err(NoMemory),
+    }
+}
+
+/// The elements of the array that the member at an index holds, `None` where it holds none. An array that was cut with its
+/// object is not read again.
+pub fn elements_at(
+    alloc: Global,
+    value: &[u8],
+    cut: ListedMembers,
+    index: usize,
+) -> Result<Option<SpanList>, NoMemory>
+    requires kept { cut.listed ≡ Some index → IsArrayCutInto MAX_DEPTH value.now cut.elements }
+    ensures cut { IfOk result (λ found. IfSome found (IsCutList value.now)) }
+    ensures none { IfOk result (λ found. IfNone found ((spans : List Span) → ¬ AreElements MAX_DEPTH value.now spans)) }
+{
+    match cut.listed {
+        Some(listed) if listed == index => Ok(Some(cut.elements)),
+        _ => cut_list(alloc, value, MAX_DEPTH),
     }
 }

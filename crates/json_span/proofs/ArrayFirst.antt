@@ -22,7 +22,7 @@ no_number true w rest e = omega (arith, e)
 no_number false nought rest e = omega (arith, e)
 no_number false (counted first above others) rest e = let small = first.small in omega (arith, e)
 
-is_array_value : (v : Value) (rest : List ℕ) → BeginsWith 91 (value_then v rest) → IsArrayValue v
+pub is_array_value : (v : Value) (rest : List ℕ) → BeginsWith 91 (value_then v rest) → IsArrayValue v
 is_array_value (json.empty_array ss) rest e = tt
 is_array_value (json.array before v after items) rest e = tt
 is_array_value (json.number l) rest e = absurd (no_number l.is_negative l.whole (fraction_then l.fraction (exponent_then l.exponent rest)) e)
@@ -48,7 +48,7 @@ begins_spelled : (before : List Space) (v : Value) → IsArrayValue v → (rest 
 begins_spelled [] v is rest h = begins_array v is rest
 begins_spelled (s ∷ ss) v is rest h = absurd (subst (λ t. IsStart t) (class_of-space s) h)
 
-begins_some : (text : List ℕ) → IsValue text → IsSomeArray text → BeginsWith 91 text
+pub begins_some : (text : List ℕ) → IsValue text → IsSomeArray text → BeginsWith 91 text
 begins_some text h o =
     let w = o.array in
     let e = spelled_then text w.before w.value w.after w.spells.spelled in

@@ -20,7 +20,7 @@ pub record HasReadArray (m : Machine) (deep : ℕ) (spans : List Span) : Type 0 
   pub deepest : m.deepest ≡ deep
   pub places : m.cutter.elements ≡ spans
 
-has_read : (before : List Space) (v : Value) (after : List Space) → IsArrayValue v → HasReadArray (read_whole frame.Array (blanks before (value_then v (blanks after [])))) (depth v) (elements_of (length (space_text before)) v)
+pub has_read : (before : List Space) (v : Value) (after : List Space) → IsArrayValue v → HasReadArray (read_whole frame.Array (blanks before (value_then v (blanks after [])))) (depth v) (elements_of (length (space_text before)) v)
 has_read before v after is =
     let text = blanks before (value_then v (blanks after [])) in
     let size = length text in

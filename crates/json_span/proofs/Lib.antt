@@ -6,8 +6,10 @@ pub mod Classes
 pub mod Complete
 pub mod Digits
 pub mod First
+pub mod FirstArray
 pub mod Inside
 pub mod Lanes
+pub mod ListReading
 pub mod Numbers
 pub mod Parts
 pub mod Places

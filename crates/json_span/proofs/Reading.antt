@@ -189,16 +189,16 @@ over_extends (b ∷ bs) at m =
     extends_on m.cutter.members (stepped m b at (at + 1)).cutter.members (over at m (b ∷ bs)).cutter.members
     (moved_extends (move_of m.phase b) m b at (at + 1)) (over_extends bs (at + 1) (stepped m b at (at + 1)))
 
-read_to_extends : (text : List ℕ) (m : Machine) (from to : ℕ) → Extends m.cutter.members (read_to text m from to).cutter.members
+pub read_to_extends : (text : List ℕ) (m : Machine) (from to : ℕ) → Extends m.cutter.members (read_to text m from to).cutter.members
 unfolding read_to
 read_to_extends text m from to = over_extends (between text from to) from m
 
-get_before : (xs more : List Member) (k : ℕ) → k < length xs → slice_get (xs ++ more) k ≡ slice_get xs k
+pub get_before : (xs more : List Member) (k : ℕ) → k < length xs → slice_get (xs ++ more) k ≡ slice_get xs k
 get_before [] more k h = absurd (omega arith)
 get_before (x ∷ xs) more zero h = refl
 get_before (x ∷ xs) more (suc k) h = get_before xs more k (omega arith)
 
-get_at : (xs : List Member) (x : Member) → slice_get (xs ++ x ∷ []) (length xs) ≡ Some x
+pub get_at : (xs : List Member) (x : Member) → slice_get (xs ++ x ∷ []) (length xs) ≡ Some x
 get_at [] x = refl
 get_at (y ∷ ys) x = get_at ys x
 
@@ -238,7 +238,7 @@ space_not json.carriage_return b (inl e) f = omega arith
 space_not json.carriage_return b (inr e) f = omega arith
 
 -- the last byte by its place
-ends_in : (front : List ℕ) (b : ℕ) → get_or (front ++ b ∷ []) (length (front ++ b ∷ []) - 1) 0 ≡ b
+pub ends_in : (front : List ℕ) (b : ℕ) → get_or (front ++ b ∷ []) (length (front ++ b ∷ []) - 1) 0 ≡ b
 ends_in front b =
     let size : length (front ++ b ∷ []) - 1 ≡ length front = omega (arith, length-append front (b ∷ [])) in
     ap (λ (i : ℕ). get_or (front ++ b ∷ []) i 0) size ∙ at front b
@@ -247,7 +247,7 @@ ends_in front b =
     at [] b = refl
     at (x ∷ xs) b = at xs b
 
-blanks_end : (s : Space) (ss : List Space) → (front : List ℕ) × (last : Space) × (blanks (s ∷ ss) [] ≡ front ++ space_byte last ∷ [])
+pub blanks_end : (s : Space) (ss : List Space) → (front : List ℕ) × (last : Space) × (blanks (s ∷ ss) [] ≡ front ++ space_byte last ∷ [])
 blanks_end s [] = ([], s, refl)
 blanks_end s (t ∷ ts) = let e = blanks_end t ts in (space_byte s ∷ e.0, e.1, ap (λ (l : List ℕ). space_byte s ∷ l) e.2)
 

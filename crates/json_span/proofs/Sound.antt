@@ -224,6 +224,24 @@ run-braces (json.object before key behind ahead v after members) is size f k d c
     ∙ ap (λ c'. run size (state phase.After (f ∷ k) (members_deepened members (suc (length (f ∷ k))) d2) (value_ended (f ∷ k) c' (size - length rest))) rest) (members_cut-inside size frame.Object f k c1 members rest)
 run-braces _ is size f k d c rest = absurd is
 
+-- an array that is a value, whatever follows it
+pub run-brackets : (v : Value) → IsArrayValue v → (size : ℕ) (f : Frame) (k : List Frame) (d : ℕ) (c : Cutter) (rest : List ℕ) →
+    run size (state phase.Value (f ∷ k) d c) (value_then v rest) ≡ run size (state phase.After (f ∷ k) (deepened v (length (f ∷ k)) d) (value_cut size (f ∷ k) c (value_then v rest) rest)) rest
+run-brackets (json.empty_array ss) is size f k d c rest =
+    run-blanks size phase.FirstItem waits_first_item (frame.Array ∷ f ∷ k) (max d (suc (length (f ∷ k)))) (value_begun (f ∷ k) c (size - length (91 ∷ blanks ss (93 ∷ rest)))) ss (93 ∷ rest)
+run-brackets (json.array before v after items) is size f k d c rest =
+    let tail = items_then items rest in
+    let value_at = value_then v (blanks after tail) in
+    let c1 = value_begun (f ∷ k) c (size - length (91 ∷ blanks before value_at)) in
+    let d1 = max d (suc (length (f ∷ k))) in
+    run-blanks size phase.FirstItem waits_first_item (frame.Array ∷ f ∷ k) d1 c1 before value_at
+    ∙ first_item size (frame.Array ∷ f ∷ k) d1 c1 value_at (starts_value v (blanks after tail))
+    ∙ run-value v size frame.Array (f ∷ k) d1 c1 (blanks after tail) (stops_blanks after tail (stops_items items rest))
+    ∙ run-blanks size phase.After waits_after (frame.Array ∷ f ∷ k) (deepened v (suc (length (f ∷ k))) d1) c1 after tail
+    ∙ run-items items size (f ∷ k) (deepened v (suc (length (f ∷ k))) d1) c1 rest
+    ∙ ap (λ c'. run size (state phase.After (f ∷ k) (items_deepened items (suc (length (f ∷ k))) (deepened v (suc (length (f ∷ k))) d1)) (value_ended (f ∷ k) c' (size - length rest))) rest) (items_cut-inside size frame.Array f k c1 items rest)
+run-brackets _ is size f k d c rest = absurd is
+
 -- what the object of the text makes of the cutter
 abbrev pub object_cut : ℕ → Cutter → Value → List ℕ → Cutter
 object_cut size c (json.object before key behind ahead v after members) rest = members_cut size (frame.Object ∷ []) (member_cut size (frame.Object ∷ []) c key behind ahead v after (members_then members rest)) members rest

@@ -1,6 +1,7 @@
 pub mod Elements
 pub mod Grammar
 pub mod Levels
+pub mod Lists
 pub mod Machine
 pub mod Members
 pub mod Plain

@@ -51,7 +51,7 @@ impl Machine {
     }
 
     /// A member's value between these places has been read, and it nests so deep.
-    pub fn pass_object(&mut self, from: u64, to: u64, deep: usize) -> Result<(), NoMemory>
+    pub fn pass_value(&mut self, from: u64, to: u64, deep: usize) -> Result<(), NoMemory>
         requires { deep ≤ MAX_DEPTH }
         ensures { OnOk result (self.new ≡ passed self.old from to deep) }
     {

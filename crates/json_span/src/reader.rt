@@ -152,7 +152,7 @@ impl Reader {
         ensures inner { OnOk result (AreReadInside text.now self.new.outside.cutter.members self.new.inner) }
     {
         let value = &text[at..];
-        let size = self.inside.read_front(value)?;
+        let size = self.inside.read_front(value, Frame::Object)?;
         if !self.has_read_object(&value[..size]) {
             return self.outside.take(text, at);
         }
@@ -161,7 +161,7 @@ impl Reader {
         self.inner
             .push(Some(mem::replace(&mut self.inside.cutter.members, fresh)))?;
         self.outside
-            .pass_object(at as u64, (at + size) as u64, self.inside.deepest)?;
+            .pass_value(at as u64, (at + size) as u64, self.inside.deepest)?;
         Ok(skip(text, at + size, Run::Blanks))
     }
 }

@@ -394,7 +394,7 @@ impl Machine {
     }
 
     /// Reads the end of a key, the colon right behind it and the value right behind that, or as much of the value as
-    /// stands here. An object is left to be read.
+    /// stands here. An object or an array is left to be read.
     #[inline(always)]
     fn take_near(&mut self, text: &[u8], at: usize) -> Result<usize, NoMemory>
         requires place { at + 2 < length text.now }
@@ -407,7 +407,7 @@ impl Machine {
         let colon = at + 1;
         self.make_one(text, colon, Move::Go(Phase::Value))?;
         let value = colon + 1;
-        if text[value] == b'{' {
+        if text[value] == b'{' || text[value] == b'[' {
             return Ok(value);
         }
         self.take_value(text, value)
@@ -446,7 +446,7 @@ impl Machine {
             return Ok(colon);
         }
         let value = self.make_at(text, colon, Move::Go(Phase::Value))?;
-        if value == text.len() || text[value] == b'{' {
+        if value == text.len() || text[value] == b'{' || text[value] == b'[' {
             return Ok(value);
         }
         self.take_value(text, value)
@@ -563,13 +563,13 @@ impl Machine {
         }
     }
 
-    /// Reads the object that a text begins with, and no further than to its end; where it is none, to where that shows
-    /// or to the end of the text.
-    pub fn read_front(&mut self, text: &[u8]) -> Result<usize, NoMemory>
-        ensures read { IfOk result (λ to. self.new ≡ read_to text.now (initial frame.Object) 0 to) }
+    /// Reads the object or the array that a text begins with, and no further than to its end; where it is none, to where
+    /// that shows or to the end of the text.
+    pub fn read_front(&mut self, text: &[u8], wanted: Frame) -> Result<usize, NoMemory>
+        ensures read { IfOk result (λ to. self.new ≡ read_to text.now (initial wanted) 0 to) }
         ensures place { IfOk result (λ to. to ≤ length text.now) }
     {
-        self.restart(Frame::Object);
+        self.restart(wanted);
         let mut at = 0;
         while at < text.len() && !is_over(self.phase) {
             at = self.take(text, at)?;

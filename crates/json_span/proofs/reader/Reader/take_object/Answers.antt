@@ -15,7 +15,7 @@ returns-clause-taken c =
     let n = c.read_front.new.self in
     let read = c.has_read_object.ensures c.if-not-has_read_object.false in
     let o = rest_read text (take (length text - c.args.at) (drop c.args.at text)) m n c.args.at c.in_ok-size.size refl c.requires.byte c.requires.phase c.requires.frames c.in_ok-size.ensures.read c.in_ok-size.ensures.place read.0 read.2 in
-    object_taken text m c.pass_object.new.self c.args.at c.in_ok-size.size c.skip.result n.deepest o.outside c.in_ok-pass_object.ensures c.skip.ensures.range.0 c.skip.ensures.range.1 c.skip.ensures.skipped
+    object_taken text m c.pass_value.new.self c.args.at c.in_ok-size.size c.skip.result n.deepest o.outside c.in_ok-pass_value.ensures c.skip.ensures.range.0 c.skip.ensures.range.1 c.skip.ensures.skipped
 
 pub returns-clause-inner : goal.returns-clause-inner
 returns-clause-inner c =
@@ -27,5 +27,5 @@ returns-clause-inner c =
     let o = rest_read text (take (length text - c.args.at) (drop c.args.at text)) m n c.args.at c.in_ok-size.size refl c.requires.byte c.requires.phase c.requires.frames c.in_ok-size.ensures.read c.in_ok-size.ensures.place read.0 read.2 in
     let padded = subst (λ (k : ℕ). IsPadded k c.args.self.now.inner c.pad.new.inner) c.len.ensures c.in_ok-pad.ensures in
     let pushed = c.in_ok-push.ensures.ok ∙ ap (λ (l : List Member). c.pad.new.inner ++ Some l ∷ []) c.replace.ensures.value in
-    subst (λ (s : Machine). AreReadInside text s.cutter.members c.push.new.self) (sym c.in_ok-pass_object.ensures)
+    subst (λ (s : Machine). AreReadInside text s.cutter.members c.push.new.self) (sym c.in_ok-pass_value.ensures)
     (one_more_inside text m c.args.at end n.deepest c.args.self.now.inner c.pad.new.inner c.push.new.self n.cutter.members c.requires.frames c.requires.inner padded pushed o.alone)
