@@ -51,7 +51,7 @@ elements_at-requires c =
     let members = c.as_slice-members.result.now in
     let place = subst (λ (found : Option ℕ). IsPlaceOf text (codes "streams") members found) c.in-Some-2.is c.in_ok-place.ensures in
     let list = subst (λ (ms : List Member). IsListed line_depth text ms c.in-Some.cut.listed c.in-Some.cut.elements) (sym c.as_slice-members.ensures)
-        (subst (λ (f : Option ListedMembers). IfSome f (λ cut. IsListed line_depth text cut.members cut.listed cut.elements)) c.in-Some.is c.in_ok-cut.ensures.list) in
+    (subst (λ (f : Option ListedMembers). IfSome f (λ cut. IsListed line_depth text cut.members cut.listed cut.elements)) c.in-Some.is c.in_ok-cut.ensures.list) in
     record { kept = λ same. listed_at text members c.in-Some-2.place no_member c.of-list.result.now c.in-Some.cut.listed c.in-Some.cut.elements list (get_at members c.in-Some-2.place no_member place.below) c.of-list.ensures same }
 
 pub returns-in_default-3-clause-refused : goal.returns-in_default-3-clause-refused
