@@ -3,3 +3,4 @@ mod TurnLemmas
 mod HeadLemmas
 mod LineLemmas
 mod GivingLemmas
+mod ResumeLemmas

@@ -5,5 +5,5 @@ mod heads;
 mod laws;
 mod turn;
 
-pub use laws::{cuts_anew, lines_by_turns};
+pub use laws::{cuts_anew, lines_by_turns, lines_resume};
 pub use turn::{ListedRows, Stage, StreamTurn};
