@@ -11,12 +11,16 @@ use Rattle.json_fields.specs.Parts.{IsCount}
 abbrev pub row_blob : ℕ → List ℕ
 row_blob number = object_text (named (codes "row") (decimal number) ∷ [])
 
--- The text is an object whose one member is `row`, a whole number.
+-- the member is `row`, a whole number
+pub record IsRowMember (text : List ℕ) (member : Member) (number : ℕ) : Type 0 where
+  pub name : IsString (text_at text member.key) (codes "row")
+  pub count : IsCount (text_at text member.value) number
+
+-- The text is an object whose one member is such a one.
 pub record IsRowBlob (text : List ℕ) (number : ℕ) : Type 0 where
   pub member : Member
   pub object : AreMembers line_depth text (member ∷ [])
-  pub name : IsString (text_at text member.key) (codes "row")
-  pub count : IsCount (text_at text member.value) number
+  pub row : IsRowMember text member number
 
 -- A stream starts behind this record with this blob. Without a blob it starts before the first.
 abbrev pub StartsBehind : Option (List ℕ) → ℕ → Type 0

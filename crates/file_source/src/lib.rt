@@ -4,5 +4,5 @@
 mod blob;
 mod laws;
 
-pub use blob::put_row_blob;
+pub use blob::{put_row_blob, start_of};
 pub use laws::{blobs_read_back, files_resume};

@@ -4,3 +4,4 @@ mod HeadLemmas
 mod LineLemmas
 mod GivingLemmas
 mod ResumeLemmas
+mod BeginLemmas

@@ -4,3 +4,5 @@ pub mod Streams
 pub mod Turns
 pub mod Laws
 pub mod Heads
+pub mod Begins
+pub mod Sources

@@ -1,0 +1,60 @@
+-- What a source of streams tells, and the lines that it has for streams which start at certain places.
+use Rattle.std.specs.Prelude.{◌≡◌, ◌≢◌, ◌⊎◌, ℕ, ◌+◌, List, [], ◌∷◌, ◌++◌, drop, Bool, Option, None, Some, IfSome, option_map, Result, Ok, Err}
+use Rattle.basics.specs.declared.stream.StreamId.{StreamId}
+use Rattle.outside.specs.declared.status.Status.{Status}
+use Rattle.outside.specs.declared.status.Status.TheVariants as status
+use Rattle.outside.specs.Feed.{FeedSeen, Left, nothing_left}
+use Rattle.catalog.specs.declared.stream.ConfStream.{ConfStream}
+use Rattle.source_lines.specs.Checkpoints.{Row}
+use Rattle.source_lines.specs.Streams.{Form, left_of, stream_lines}
+
+-- the rows of a stream that are to come, the blob that it starts with, and after how many records a state is due
+pub record Listed : Type 0 where
+  pub every : ℕ
+  pub blob : List ℕ
+  pub rows : List Row
+
+-- what a stream has, by its number, the stream, and where it starts: its rows, or why it is refused
+abbrev pub Openings : Type 0 → Type 0
+Openings Start = ℕ → ConfStream → Start → Result Listed Status
+
+-- What contracts see of a source: the names that it knows, what its streams have, where that is told, and how often its rows
+-- could not be read.
+pub record SourceSeen (Start : Type 0) : Type 0 where
+  pub is_known : List ℕ → Bool
+  pub openings : Option (Openings Start)
+  pub faults : ℕ
+
+-- the lines of a stream of these rows
+abbrev pub listed_lines : ℕ → StreamId → Listed → List (List ℕ)
+listed_lines moment id listed = stream_lines (record { id = id; moment = moment; every = listed.every }) listed.blob listed.rows
+
+-- or why there are none
+abbrev pub lines_of : ℕ → StreamId → Result Listed Status → Result (List (List ℕ)) Status
+lines_of moment id (Ok listed) = Ok (listed_lines moment id listed)
+lines_of moment id (Err why) = Err why
+
+-- the lines of streams that start at these places, the first of them with this number
+abbrev pub lines_from : {Start : Type 0} → Openings Start → ℕ → ℕ → List ConfStream → List Start → List (Result (List (List ℕ)) Status)
+lines_from openings moment number [] starts = []
+lines_from openings moment number (stream ∷ streams) [] = []
+lines_from openings moment number (stream ∷ streams) (start ∷ starts) =
+    lines_of moment stream.id (openings number stream start) ∷ lines_from openings moment (number + 1) streams starts
+
+-- what a feed has left, once it began with streams that start at these places
+abbrev pub left_from : {Start : Type 0} → ℕ → List ConfStream → List Start → Openings Start → Left
+left_from moment streams starts openings = left_of (lines_from openings moment 0 streams starts)
+
+-- memory was wanting, or the rows could not be read, or it is told that the stream is refused so
+abbrev pub OpensNot : Status → Option (Result Listed Status) → Type 0
+OpensNot why told = (why ≢ status.Ok) × ((why ≡ status.NoMemory) ⊎ (why ≡ status.RowFault) ⊎ IfSome told (λ opening. opening ≡ Err why))
+
+-- the opening of this stream, where it is told
+abbrev pub opening_of : {Start : Type 0} → SourceSeen Start → ℕ → ConfStream → Start → Option (Result Listed Status)
+opening_of seen number stream start = option_map (λ openings. openings number stream start) seen.openings
+
+-- For private clauses: the lines of the stream whose turn it is, and then those of the streams from this number on.
+abbrev pub left_behind : {Start : Type 0} → List (List ℕ) → ℕ → ℕ → List ConfStream → List Start → Openings Start → Left
+left_behind lines moment number streams starts openings =
+    let others = left_of (lines_from openings moment number (drop number streams) (drop number starts)) in
+    record others { lines = lines ++ others.lines }
