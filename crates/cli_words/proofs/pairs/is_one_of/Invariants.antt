@@ -1,0 +1,9 @@
+use Rattle.std.proofs.Common.{◌≡◌, map, drop}
+use Rattle.std.specs.List.{list_any}
+use Rattle.std.specs.Str.{bytes_eq}
+use Rattle.cli_words.proofs.pairs.is_one_of.Given as goal
+
+abbrev pub invariant-loop-option : goal.invariant-loop-option
+invariant-loop-option l =
+    list_any (bytes_eq l.word) (map (λ option. option.now) (drop l.option-index l.options))
+    ≡ list_any (bytes_eq l.word) (map (λ option. option.now) l.options)
