@@ -1,0 +1,2 @@
+// Laws.
+ghost use Rattle.table_source.specs.Laws.{OneOrder};
