@@ -5,6 +5,7 @@ use Rattle.std.specs.declared.cmp.Ordering.{Ordering}
 use Rattle.std.specs.Ordering.{nat_cmp, on, then_cmp}
 use Rattle.std.specs.Cmp.Lexicographic.{slice_cmp}
 use Rattle.outside.specs.declared.line.NumberedRow.{NumberedRow}
+use Rattle.json_span.specs.Members.{IsValue}
 use Rattle.json_fields.specs.Parts.{NestsWithin}
 use Rattle.json_squeeze.specs.Squeeze.{squeezed}
 use Rattle.value_order.specs.Order.{order_of}
@@ -13,7 +14,7 @@ use Rattle.value_order.specs.declared.value.Value.TheVariants.{Null}
 use Rattle.catalog.specs.Entry.{PathNames}
 use Rattle.catalog.specs.declared.stream.ConfStream.{ConfStream}
 use Rattle.column_types.specs.Columns.{AreColumns, is_instant_path}
-use Rattle.column_types.specs.Values.{HasValue}
+use Rattle.column_types.specs.Values.{HasValue, IsData}
 use Rattle.column_types.specs.declared.column.Column.{Column}
 use Rattle.table_source.specs.declared.keyed.KeyedRow.{KeyedRow}
 use Rattle.table_source.specs.declared.keyed.RowPart.{RowPart}
@@ -62,3 +63,10 @@ values_order = slice_cmp order_of
 -- rows that have equal values stand in order of their ids
 abbrev pub row_order : KeyedRow → KeyedRow → Ordering
 row_order = then_cmp (on values_of values_order) (on (λ row. row.id) nat_cmp)
+
+-- For private clauses: a row's body without white space.
+pub record IsBodyOf (text made : List ℕ) : Type 0 where
+  pub fits : IsRowBody text
+  pub is : made ≡ squeezed text
+  pub object : IsData made
+  pub value : IsValue made

@@ -1,4 +1,5 @@
 pub mod Keyed
+pub mod Total
 pub mod Blob
 pub mod Table
 pub mod Config

@@ -26,6 +26,12 @@ pub record AreInOrder (keying : Keying) (start : Option (List Value)) (rows : Li
   pub same : IsPermutation (filter (is_behind start) keyed) listed
   pub sorted : IsSorted row_order listed
 
+-- For private clauses: the rows of a table that stand behind a start, in the table's order.
+pub record KeepsBehind (keying : Keying) (start : Option (List Value)) (rows : List NumberedRow) (kept : List KeyedRow) : Type 0 where
+  pub keyed : List KeyedRow
+  pub are : AreKeyed keying rows keyed
+  pub is : kept ≡ filter (is_behind start) keyed
+
 -- the first row of the table that is none has this id
 pub record IsFirstUnfit (rows : List NumberedRow) (id : ℕ) : Type 0 where
   pub before : List NumberedRow

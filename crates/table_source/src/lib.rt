@@ -5,9 +5,13 @@ mod config;
 mod keyed;
 mod keying;
 mod laws;
+mod rows;
 mod start;
+mod table_rows;
 
 pub use config::{MOST_EVERY, TableConfig, TableEntry, TableEntryList, USUAL_EVERY};
-pub use keyed::{KeyedRow, RowPart};
+pub use keyed::{KeyedRow, RowPart, compare_to, compare_values};
 pub use keying::{DEEPEST_ROW, Keying, keying_of};
+pub use rows::{ListFault, list_table};
 pub use start::TableStart;
+pub use table_rows::TableRows;
