@@ -1,2 +1,4 @@
 mod CompareLemmas
 mod KeyLemmas
+mod ListLemmas
+mod RowLemmas

@@ -135,6 +135,12 @@ pub enum ListFault {
 }
 
 impl From<NoMemory> for ListFault {
+    ghost use Rattle.std.specs.Prelude.{◌≡◌};
+    ghost use Rattle.table_source.specs.declared.rows.ListFault.{ListFault};
+    ghost use Rattle.table_source.specs.declared.rows.ListFault.TheVariants as fault;
+
+    ghost from_gives = { λ _ found. found ≡ fault.NoMemory };
+
     fn from(_: NoMemory) -> Self {
         ListFault::NoMemory
     }
@@ -146,16 +152,16 @@ fn keyed_behind(
     keying: &Keying,
     behind: &Option<Sequence<Value>>,
     rows: &[NumberedRow],
-) -> Result<Vec<KeyedRow>, ListFault>
-    ensures kept { IfOk result (λ kept. KeepsBehind keying.now behind.now rows.now kept.items) }
+) -> Result<Sequence<KeyedRow>, ListFault>
+    ensures kept { IfOk result (KeepsBehind keying.now behind.now rows.now) }
     ensures unfit { (id : ℕ) → result ≡ Err (ListFault.Unfit id) → IsFirstUnfit rows.now id }
 {
-    let mut kept = Vec::new(alloc);
+    let mut kept = Sequence::new(alloc);
     for row in rows {
         match keyed_row(alloc, keying, row)? {
             Some(keyed) => {
                 if stands_behind(behind, &keyed) {
-                    kept.push(keyed).map_err(|_| ListFault::NoMemory)?;
+                    kept.push(keyed)?;
                 }
             }
             None => return Err(ListFault::Unfit(row.id)),
@@ -165,12 +171,13 @@ fn keyed_behind(
 }
 
 // The rows in their order.
-fn sorted(mut rows: Vec<KeyedRow>) -> Result<Vec<KeyedRow>, NoMemory>
-    ensures same { IfOk result (λ made. IsPermutation rows.items made.items) }
-    ensures sorted { IfOk result (λ made. IsSorted row_order made.items) }
+fn sorted(rows: Sequence<KeyedRow>) -> Result<Sequence<KeyedRow>, NoMemory>
+    ensures same { IfOk result (λ made. IsPermutation rows made) }
+    ensures sorted { IfOk result (λ made. IsSorted row_order made) }
 {
-    rows.sort()?;
-    Ok(rows)
+    let mut items = rows.into_vec();
+    items.sort()?;
+    Ok(Sequence::from_vec(items))
 }
 
 /// The rows of a table that stand behind a start, in the order in which a stream writes them.

@@ -6,7 +6,7 @@ ghost use Rattle.table_source.specs.Blob.{blob_of};
 ghost use Rattle.table_source.specs.Table.{rows_of};
 
 use crate::keyed::{KeyedRow, RowPart, compare_values};
-use basics::{Bytes, NoMemory};
+use basics::{Bytes, NoMemory, Sequence};
 use json_write::{put_comma, put_key};
 use source_lines::ListedRows;
 use std::cmp::Ordering;
@@ -15,7 +15,7 @@ use std::marker::Model;
 /// Rows in the order in which a stream writes them.
 #[derive(Drop)]
 pub struct TableRows {
-    rows: Vec<KeyedRow>,
+    rows: Sequence<KeyedRow>,
 }
 
 impl Model for TableRows {
@@ -24,13 +24,13 @@ impl Model for TableRows {
 
     ghost Value = { List KeyedRow };
 
-    ghost view = { λ table. table.rows.items };
+    ghost view = { λ table. table.rows };
 }
 
 impl TableRows {
     // These rows, in their order.
-    pub fn new(rows: Vec<KeyedRow>) -> Self
-        ensures { result ≡ rows.items }
+    pub fn new(rows: Sequence<KeyedRow>) -> Self
+        ensures { result ≡ rows }
     {
         TableRows { rows }
     }
@@ -67,17 +67,19 @@ impl ListedRows for TableRows {
     }
 
     fn put_body(&self, place: usize, line: &mut Bytes) -> Result<(), NoMemory> {
-        line.extend(self.rows[place].body.as_slice())
+        line.extend(self.rows.at(place).body.as_slice())
     }
 
     fn put_blob(&self, place: usize, line: &mut Bytes) -> Result<(), NoMemory> {
-        put_blob_of(&self.rows[place], line)
+        put_blob_of(self.rows.at(place), line)
     }
 
     fn closes(&self, place: usize) -> bool {
-        match self.rows.get(place + 1) {
-            Some(next) => compare_values(&self.rows[place], next) != Ordering::Equal,
-            None => true,
+        let count = self.rows.len();
+        let next = place + 1;
+        if next == count {
+            return true;
         }
+        compare_values(self.rows.at(place), self.rows.at(next)) != Ordering::Equal
     }
 }
