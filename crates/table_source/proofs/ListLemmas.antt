@@ -1,7 +1,7 @@
 -- The rows of a table, one by one.
-use Rattle.std.proofs.Common.{◌≡◌, ◌∙◌, ℕ, ◌+◌, ◌<◌, ◌≤◌, List, [], ◌∷◌, ◌++◌, length, take, drop, get_or, filter, cond, Bool, true, false, Option, None, Some, All, refl, sym, ap, subst, arith}
+use Rattle.std.proofs.Common.{◌≡◌, ◌∙◌, ℕ, ◌+◌, ◌<◌, ◌≤◌, List, [], ◌∷◌, ◌++◌, length, take, drop, get_or, filter, cond, Bool, Option, Result, Ok, Err, refl, sym, ap, subst}
 use Rattle.std.specs.List.{AllZip, AllByRecursion}
-use Rattle.std.proofs.lemmas.List.{take_all, take_drop, drop_more}
+use Rattle.std.proofs.lemmas.List.{take_all, take-append-drop, drop_more}
 use Rattle.std.proofs.lemmas.List.Elements.{All-from_recursion, filter-append}
 use Rattle.outside.specs.declared.line.NumberedRow.{NumberedRow}
 use Rattle.value_order.specs.declared.value.Value.{Value}
@@ -9,6 +9,8 @@ use Rattle.table_source.specs.declared.keyed.KeyedRow.{KeyedRow}
 use Rattle.table_source.specs.declared.keying.Keying.{Keying}
 use Rattle.table_source.specs.Keyed.{IsKeyed, IsRowBody}
 use Rattle.table_source.specs.Table.{IsFirstUnfit, KeepsBehind, is_behind}
+use Rattle.table_source.specs.declared.rows.ListFault.{ListFault}
+use Rattle.table_source.specs.declared.rows.ListFault.TheVariants as list_fault
 use Rattle.table_source.proofs.KeyLemmas.{zip_more}
 
 all_fit : (keying : Keying) (rows : List NumberedRow) (keyed : List KeyedRow) → AllZip (IsKeyed keying) rows keyed → AllByRecursion (λ (row : NumberedRow). IsRowBody row.body) rows
@@ -40,7 +42,7 @@ unfit_at keying start rows at row kept within is unfit so_far = record {
   before = take at rows;
   row = row;
   behind = drop (at + 1) rows;
-  splits = sym (take_drop at rows) ∙ ap (λ (l : List NumberedRow). take at rows ++ l) (drop_more rows at row within ∙ ap (λ (r : NumberedRow). r ∷ drop (at + 1) rows) (sym is));
+  splits = sym (take-append-drop at rows) ∙ ap (λ (l : List NumberedRow). take at rows ++ l) (drop_more rows at row within ∙ ap (λ (r : NumberedRow). r ∷ drop (at + 1) rows) (sym is));
   fit = All-from_recursion (λ (other : NumberedRow). IsRowBody other.body) (take at rows) (all_fit keying (take at rows) so_far.keyed so_far.are);
   unfit = unfit;
   is = refl;
@@ -48,3 +50,9 @@ unfit_at keying start rows at row kept within is unfit so_far = record {
 
 pub whole : (keying : Keying) (start : Option (List Value)) (rows : List NumberedRow) (at : ℕ) (kept : List KeyedRow) → length rows ≤ at → KeepsBehind keying start (take at rows) kept → KeepsBehind keying start rows kept
 whole keying start rows at kept over so_far = subst (λ (l : List NumberedRow). KeepsBehind keying start l kept) (take_all at rows over) so_far
+
+-- the id that a fault tells
+abbrev pub unfit_id : {T : Type 0} → Result T ListFault → ℕ
+unfit_id (Ok done) = 0
+unfit_id (Err (list_fault.Unfit id)) = id
+unfit_id (Err list_fault.NoMemory) = 0

@@ -1,8 +1,8 @@
 -- Rows of a source's list.
-use Rattle.std.proofs.Common.{◌≡◌, ◌∙◌, ℕ, ◌+◌, ◌<◌, List, [], ◌∷◌, ◌++◌, length, drop, map, slice_get, unwrap_or, zero, suc, true, Bool, not, Option, Some, Result, Ok, Err, OnOk, refl, sym, ap, subst, arith, append_assoc}
+use Rattle.std.proofs.Common.{◌≡◌, ◌∙◌, ℕ, ◌+◌, ◌<◌, List, [], ◌∷◌, ◌++◌, length, drop, slice_get, unwrap_or, zero, suc, true, Option, Some, Result, Ok, Err, OnOk, refl, sym, ap, arith, append_assoc}
 use Rattle.std.proofs.lemmas.Option.{none-some}
 use Rattle.std.proofs.lemmas.List.{drop_all}
-use Rattle.std.specs.Ordering.{is_eq}
+use Rattle.std.specs.Ordering.{is_ne}
 use Rattle.source_lines.specs.Checkpoints.{Row}
 use Rattle.table_source.specs.declared.keyed.KeyedRow.{KeyedRow}
 use Rattle.table_source.specs.Keyed.{values_of, values_order}
@@ -47,7 +47,7 @@ next_first (y ∷ xs) (suc place) next found = next_first xs place next found
 
 -- and behind another where the next one's values differ
 pub closes_next : (xs : List KeyedRow) (place : ℕ) (x next : KeyedRow) (row : Row) → slice_get xs place ≡ Some x → slice_get xs (place + 1) ≡ Some next → slice_get (rows_of xs) place ≡ Some row
-    → not (is_eq (values_order (values_of x) (values_of next))) ≡ row.closes
+    → is_ne (values_order (values_of x) (values_of next)) ≡ row.closes
 closes_next xs place x next row found after made =
     let one_more : place + 1 ≡ suc place = omega arith in
     let first = next_first xs (suc place) next (ap (slice_get xs) (sym one_more) ∙ after) in
@@ -56,3 +56,8 @@ closes_next xs place x next row found after made =
 -- the text of a blob
 pub two_members : (line first one second two : List ℕ) → ((((line ++ 123 ∷ (first ++ 58 ∷ [])) ++ one) ++ 44 ∷ (second ++ 58 ∷ [])) ++ two) ++ 125 ∷ [] ≡ line ++ 123 ∷ (first ++ 58 ∷ (one ++ 44 ∷ (second ++ 58 ∷ (two ++ 125 ∷ []))))
 two_members line first one second two = simp append_assoc refl
+
+pub some_at : (xs : List KeyedRow) (place : ℕ) → place < length xs → (x : KeyedRow) × (slice_get xs place ≡ Some x)
+some_at [] place within = absurd (omega (arith, within))
+some_at (x ∷ xs) zero within = (x, refl)
+some_at (x ∷ xs) (suc place) within = some_at xs place (omega (arith, within))

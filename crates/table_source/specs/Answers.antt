@@ -1,11 +1,10 @@
 -- What a source of tables says and answers, by its words, the texts of its files and its rows.
-use Rattle.std.specs.Prelude.{◌≡◌, ◌⊎◌, ℕ, List, [], ◌∷◌, Option, None, Some, Result, Ok, Err, MatchResult, codes}
+use Rattle.std.specs.Prelude.{◌≡◌, ℕ, List, [], ◌∷◌, Option, None, Some, Result, MatchResult, codes}
 use Rattle.outside.specs.Desk.{Texts}
 use Rattle.outside.specs.Feed.{Left, nothing_left}
 use Rattle.outside.specs.Rows.{RowsByTable}
 use Rattle.outside.specs.Status.{config_status}
 use Rattle.outside.specs.declared.faults.ConfigFault.{ConfigFault}
-use Rattle.outside.specs.declared.status.Status.{Status}
 use Rattle.outside.specs.declared.status.Status.TheVariants as status
 use Rattle.cli_words.specs.Connectors.{SourceAsked, Spec, Check, Discover, Read}
 use Rattle.table_source.specs.declared.config.TableConfig.{TableConfig}

@@ -1,7 +1,7 @@
 -- The rows of a table in the order in which a stream writes them.
-use Rattle.std.specs.Prelude.{◌≡◌, ◌⊎◌, ℕ, List, [], ◌∷◌, ◌++◌, All, IsPermutation, IsSorted, filter, Bool, true, not, Option, None, Some, Result, Ok, Err}
+use Rattle.std.specs.Prelude.{◌≡◌, ℕ, List, [], ◌∷◌, ◌++◌, All, IsPermutation, IsSorted, filter, Bool, true, Option, None, Some, Result, Ok, Err}
 use Rattle.std.specs.List.{AllZip}
-use Rattle.std.specs.Ordering.{is_eq, is_gt}
+use Rattle.std.specs.Ordering.{is_gt, is_ne}
 use Rattle.outside.specs.declared.line.NumberedRow.{NumberedRow}
 use Rattle.value_order.specs.declared.value.Value.{Value}
 use Rattle.source_lines.specs.Checkpoints.{Row}
@@ -50,7 +50,7 @@ ListsTable keying start rows (Err id) = IsFirstUnfit rows id
 -- whether a row's values are other than those of the next, so that a state may stand between them; behind the last one may
 abbrev pub closes_before : KeyedRow → List KeyedRow → Bool
 closes_before row [] = true
-closes_before row (next ∷ rows) = not (is_eq (values_order (values_of row) (values_of next)))
+closes_before row (next ∷ rows) = is_ne (values_order (values_of row) (values_of next))
 
 -- these rows as those of a source's list
 abbrev pub rows_of : List KeyedRow → List Row

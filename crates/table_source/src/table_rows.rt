@@ -9,7 +9,6 @@ use crate::keyed::{KeyedRow, RowPart, compare_values};
 use basics::{Bytes, NoMemory, Sequence};
 use json_write::{put_comma, put_key};
 use source_lines::ListedRows;
-use std::cmp::Ordering;
 use std::marker::Model;
 
 /// Rows in the order in which a stream writes them.
@@ -80,6 +79,6 @@ impl ListedRows for TableRows {
         if next == count {
             return true;
         }
-        compare_values(self.rows.at(place), self.rows.at(next)) != Ordering::Equal
+        compare_values(self.rows.at(place), self.rows.at(next)).is_ne()
     }
 }

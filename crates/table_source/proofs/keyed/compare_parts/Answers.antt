@@ -1,6 +1,5 @@
 use Rattle.std.proofs.Common.{inl, inr, get_or, ap, sym, ◌∙◌, ◌⊎◌, ◌≤◌, length}
 use Rattle.value_order.specs.Order.{order_of}
-use Rattle.value_order.specs.declared.value.Value.{Value}
 use Rattle.table_source.specs.declared.keyed.RowPart.{RowPart}
 use Rattle.table_source.proofs.CompareLemmas.{by_parts, differs, ends}
 use Rattle.table_source.proofs.keyed.compare_parts.Goals as goal

@@ -1,7 +1,6 @@
 use Rattle.std.proofs.Common.{◌≡◌, ◌≤◌, ◌-◌, length, drop}
 use Rattle.std.specs.Cmp.Lexicographic.{slice_cmp}
 use Rattle.value_order.specs.Order.{order_of}
-use Rattle.value_order.specs.declared.value.Value.{Value}
 use Rattle.table_source.specs.declared.keyed.RowPart.{RowPart}
 use Rattle.table_source.proofs.keyed.compare_parts.Given as goal
 
