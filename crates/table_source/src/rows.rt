@@ -30,12 +30,7 @@ fn null_part(alloc: Global) -> Result<RowPart, NoMemory>
 }
 
 // The part at a path of a row's body.
-fn part_at(
-    alloc: Global,
-    body: &[u8],
-    path: &Path,
-    is_instant: bool,
-) -> Result<RowPart, NoMemory>
+fn part_at(alloc: Global, body: &[u8], path: &Path, is_instant: bool) -> Result<RowPart, NoMemory>
     requires value { IsValue body.now }
     requires object { IsData body.now }
     ensures { IfOk result (IsPartAt body.now path.now is_instant) }
