@@ -2,3 +2,4 @@ mod CompareLemmas
 mod KeyLemmas
 mod ListLemmas
 mod RowLemmas
+mod SaidLemmas

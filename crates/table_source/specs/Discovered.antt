@@ -21,7 +21,7 @@ abbrev pub table_parts : TableEntry → List Part
 table_parts entry =
     named (codes "name") (quoted entry.name)
     ∷ named (codes "json_schema") (squeezed entry.schema)
-    ∷ named (codes "supported_sync_modes") (list_text (quoted (codes "full_refresh") ∷ quoted (codes "incremental") ∷ []))
+    ∷ named (codes "supported_sync_modes") (codes "[\"full_refresh\",\"incremental\"]")
     ∷ named (codes "source_defined_cursor") (codes "false")
     ∷ optional (codes "default_cursor_field") (option_map name_path entry.cursor)
     (optional (codes "source_defined_primary_key") (key_paths entry.key) (named (codes "is_resumable") (codes "true") ∷ []))
