@@ -4,7 +4,6 @@
 mod config;
 mod keyed;
 mod keying;
-mod laws;
 mod rows;
 mod said;
 mod start;
@@ -14,6 +13,6 @@ pub use config::{MOST_EVERY, TableConfig, TableEntry, TableEntryList, USUAL_EVER
 pub use keyed::{KeyedRow, RowPart, compare_to, compare_values};
 pub use keying::{DEEPEST_ROW, Keying, keying_of};
 pub use rows::{ListFault, list_table};
-pub use said::{discovered, failed, succeeded};
+pub use said::{discovered, failed, specified, succeeded};
 pub use start::TableStart;
 pub use table_rows::TableRows;

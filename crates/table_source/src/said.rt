@@ -1,9 +1,9 @@
 // What a source of tables says of itself.
 ghost use Rattle.std.specs.Prelude.{◌≡◌, map, option_map, IfOk};
-ghost use Rattle.table_source.specs.Discovered.{discover_line, failed_line, key_paths, name_path, succeeded_line, table_text};
+ghost use Rattle.table_source.specs.Discovered.{discover_line, failed_line, key_paths, name_path, spec_line, succeeded_line, table_text};
 
 use crate::config::{TableConfig, TableEntry};
-use airbyte_message::{CatalogMsg, ConnectionMsg, Message};
+use airbyte_message::{CatalogMsg, ConnectionMsg, Message, SpecMsg};
 use basics::{Bytes, BytesList, Name, NoMemory, Path};
 use json_squeeze::squeeze;
 use json_write::{put_list, put_member, put_optional_member, put_string, put_string_member};
@@ -66,7 +66,12 @@ fn table_text_of(alloc: Global, entry: &TableEntry) -> Result<Bytes, NoMemory>
     let mut text = Bytes::new(alloc);
     put_string_member(&mut text, b'{', "name", entry.name.as_str())?;
     put_member(&mut text, b',', "json_schema", schema.as_slice())?;
-    put_member(&mut text, b',', "supported_sync_modes", br#"["full_refresh","incremental"]"#)?;
+    put_member(
+        &mut text,
+        b',',
+        "supported_sync_modes",
+        br#"["full_refresh","incremental"]"#,
+    )?;
     put_member(&mut text, b',', "source_defined_cursor", b"false")?;
     put_optional_member(&mut text, "default_cursor_field", &cursor)?;
     put_optional_member(&mut text, "source_defined_primary_key", &key)?;
@@ -95,6 +100,17 @@ pub fn discovered(alloc: Global, config: &TableConfig) -> Result<Bytes, NoMemory
     let mut streams = Bytes::new(alloc);
     put_list(&mut streams, &texts)?;
     write_message(alloc, &Message::Catalog(CatalogMsg { streams }))
+}
+
+/// The JSON schema of a configuration.
+const SPECIFICATION: &str = r#"{"type":"object","required":["database","tables"]}"#;
+
+/// The line of `spec`: what a configuration has to be.
+pub fn specified(alloc: Global) -> Result<Bytes, NoMemory>
+    ensures { IfOk result (λ line. line ≡ spec_line) }
+{
+    let specification = Bytes::copy_of(alloc, SPECIFICATION.as_bytes())?;
+    write_message(alloc, &Message::Spec(SpecMsg { specification }))
 }
 
 /// The line of `check` where a configuration can be used.

@@ -1,2 +1,0 @@
-// Laws.
-ghost use Rattle.table_source.specs.Laws.{OneOrder};
