@@ -1,2 +1,4 @@
 mod ResumeLemmas
 mod BlobLemmas
+pub mod SheetLemmas
+pub mod FitLemmas

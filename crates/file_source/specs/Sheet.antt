@@ -37,3 +37,8 @@ sheet_of (header ∷ others) = if are_texts header then sheet_unless (first_misf
 -- what a file's text holds, or the number of the first record that is refused
 abbrev pub sheet_in : List ℕ → Result Sheet ℕ
 sheet_in text = sheet_of (records default_config (strip_bom text))
+
+-- the first record is the header of the others; without one there are no columns
+abbrev pub sheet_under : List Fields → Sheet
+sheet_under [] = record { header = []; records = [] }
+sheet_under (header ∷ others) = record { header = header; records = others }

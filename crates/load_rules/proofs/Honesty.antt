@@ -1,8 +1,8 @@
--- Whole lines through two pipes to a safe destination make an honest attempt.
-use Rattle.std.proofs.Common.{arith, ◌≡◌, ◌⊎◌, inl, inr, ℕ, ◌+◌, ◌<◌, ◌≤◌, ◌^◌, List, [], ◌∷◌, ◌++◌, map, length, Bool, true, false, cond, refl, sym, ◌∙◌, ap, subst, append_assoc, length-append}
+-- Lines through two pipes to a safe destination, perhaps cut where these end, make an honest attempt.
+use Rattle.std.proofs.Common.{arith, ◌≡◌, ◌⊎◌, inl, inr, ℕ, ◌+◌, ◌<◌, ◌≤◌, ◌^◌, List, [], ◌∷◌, ◌++◌, map, length, Option, None, Some, Bool, true, false, cond, refl, sym, ◌∙◌, ap, subst, append_assoc, length-append}
 use Rattle.std.specs.Prelude.{filter, filter_map, Contains}
 use Rattle.std.specs.List.{AllByRecursion}
-use Rattle.std.proofs.lemmas.List.{append-nil, map-append}
+use Rattle.std.proofs.lemmas.List.{append-nil}
 use Rattle.std.proofs.lemmas.List.Elements.{filter_map-append, filter-append, Contains-append_left, Contains-append_right}
 use Rattle.std.proofs.lemmas.Bool.{false≢true}
 use Rattle.outside.specs.declared.event.Event.{Event}
@@ -12,6 +12,11 @@ use Rattle.outside.specs.Event.{took_in}
 use Rattle.catalog.specs.declared.stream.ConfStream.{ConfStream}
 use Rattle.airbyte_message.specs.Lanes.{Lane}
 use Rattle.airbyte_message.specs.Echo.{IsEcho}
+use Rattle.airbyte_message.specs.Same.{Same}
+use Rattle.airbyte_message.specs.Messages.{IsMessage}
+use Rattle.airbyte_message.specs.declared.message.Message.{Message}
+use Rattle.airbyte_message.specs.declared.message.Message.TheVariants as message
+use Rattle.json_fields.specs.Answer.{IsAnswer}
 use Rattle.load_rules.specs.Prefixes.{EachFits, IsPrefix}
 use Rattle.load_rules.specs.Lines.{Line, Reading, ReadsText, ReadsEvent, IsReading, line_read, lines_read, state_in}
 use Rattle.load_rules.specs.Taken.{Entry, entries, entries_from, LaneState, state_of, states, states_behind, of_lane, is_same_lane, covers, covered, count_of, is_in}
@@ -21,15 +26,17 @@ use Rattle.load_rules.specs.SafeDest.{IsSafeLoad, IsSafeDest}
 use Rattle.load_rules.specs.Attempts.{gives, gots, emits}
 use Rattle.load_rules.specs.Honest.{IsCommitted, HonestFits, GotFits}
 use Rattle.load_rules.specs.Engine.{OpensFirst}
-use Rattle.load_rules.specs.Laws.{IsOwnRow, PipeFits, PipesAreHonest}
+use Rattle.load_rules.specs.Laws.{IsOwnRow, ComesNext, PipeFits, PipesAreHonest}
 use Rattle.load_rules.proofs.Fronts.{each_front, each_at}
 use Rattle.load_rules.proofs.LoadFronts.{fronts_are_safe}
-use Rattle.load_rules.proofs.TakenLists.{entries-append, states-append}
+use Rattle.load_rules.proofs.TakenLists.{entries-append}
 use Rattle.load_rules.proofs.Machines.{Rising, prefix_on, rising_accept, rising_less, lane_own, lane_is}
 use Rattle.load_rules.proofs.SafeRuns.{contains_first, contains_none, contains_cases}
 use Rattle.load_rules.proofs.OwnRows.{rows_are_own}
 use Rattle.load_rules.proofs.Pipes.{EchoesStand, echoes_stand, AreEchoes, acts_echoes, acts_taken, OneLoad, may_load, MayLoad, taken_given}
-use Rattle.load_rules.proofs.Returns.{IsEchoable, right_states, Returned, returned, all_returned, taken_low, waits_at}
+use Rattle.load_rules.proofs.Returns.{IsEchoable, right_states, reads_as, Returned, returned, all_returned, taken_low, waits_at}
+use Rattle.load_rules.proofs.Twins.{messages, messages_read, entries_alike, AreTwins, twins_lane, CutTwins, cut_twins, GivenTwins, given_twins, Woven, weave, returned_twins}
+use Rattle.load_rules.proofs.EchoFronts.{whole_echo}
 
 -- Lists
 
@@ -215,16 +222,25 @@ commit_told read (act ∷ acts) (event ∷ events) number rows are c = at (conta
 
 -- A line that comes back
 
+message_is : (read : Reading) (text : List ℕ) (content : Message) → read text ≡ Some content → ReadsText read text → IsMessage text content
+message_is read text content is reads = (subst (IsAnswer (IsMessage text)) is reads).is
+
 record Behind (streams : List ConfStream) (read : Reading) (before : List Event) (text : List ℕ) : Type 0 where
   reading : IsReading read before
   reads : ReadsText read text
   short : length (tooks before) < 2 ^ 64
   safe : IsSafeDest streams read before
-  given : IsPrefix (tooks before) (gives before)
-  came : IsPrefix (gots before ++ text ∷ []) (emits before)
+  given : IsPrefix (filter_map read (tooks before)) (filter_map read (gives before))
+  came : ComesNext (emits before) (gots before) text
+
+low_as : (a b c : ℕ) → a ≤ 0 + b → b ≡ c → a ≤ c
+low_as a b c under same = omega (arith, under, same)
+
+sum_low : (n a b c : ℕ) → n ≡ a + b → a + b ≤ c → n ≤ c
+sum_low n a b c same low = omega (arith, same, low)
 
 comes_back : (streams : List ConfStream) (read : Reading) (before : List Event) (text : List ℕ) → Behind streams read before text → OneLoad before → AllByRecursion (GotFits streams read before) (states (line_read read text ∷ []))
-comes_back streams read before text b loaded = subst (AllByRecursion (GotFits streams read before)) (sym returned_now.is) (fits, tt)
+comes_back streams read before text b loaded = at (read text) refl
   where
     load : Load
     load = loaded.load
@@ -238,14 +254,14 @@ comes_back streams read before text b loaded = subst (AllByRecursion (GotFits st
     taken_is : taken safe.acts ≡ lines_read read (tooks before)
     taken_is = acts_taken read safe.acts loaded.load.events safe.are ∙ ap (lines_read read) (sym loaded.tooks_are)
 
-    all_given : lines_read read (gives before) ≡ lines_read read (tooks before) ++ lines_read read b.given.0
-    all_given = ap (lines_read read) b.given.1 ∙ map-append (line_read read) (tooks before) b.given.0
+    next : List ℕ
+    next = b.came.next
 
-    echoes_are : AreEchoes (filter_map state_echoed safe.acts) (gots before ++ text ∷ b.came.0)
-    echoes_are = subst (AreEchoes (filter_map state_echoed safe.acts)) (sym loaded.emits_are ∙ (b.came.1 ∙ append_assoc (gots before) (text ∷ []) b.came.0)) (acts_echoes read safe.acts loaded.load.events safe.are)
+    echoes_are : AreEchoes (filter_map state_echoed safe.acts) (gots before ++ b.came.next ∷ b.came.rest)
+    echoes_are = subst (AreEchoes (filter_map state_echoed safe.acts)) (sym loaded.emits_are ∙ b.came.are) (acts_echoes read safe.acts loaded.load.events safe.are)
 
-    split : SplitEchoes (filter_map state_echoed safe.acts) (gots before) text
-    split = split_echoes (filter_map state_echoed safe.acts) (gots before) b.came.0 text echoes_are
+    split : SplitEchoes (filter_map state_echoed safe.acts) (gots before) b.came.next
+    split = split_echoes (filter_map state_echoed safe.acts) (gots before) b.came.rest b.came.next echoes_are
 
     good_states : AllByRecursion IsEchoable (states (lines_read read (tooks before)))
     good_states = let short = b.short in right_states read [] (tooks before) (omega (arith, short)) (reads_tooks read before b.reading)
@@ -259,8 +275,17 @@ comes_back streams read before text b loaded = subst (AllByRecursion (GotFits st
     good : AllByRecursion IsEchoable (split.front ++ split.state ∷ split.rest)
     good = subst (AllByRecursion IsEchoable) split.is (all_by_lanes IsEchoable (filter_map state_echoed safe.acts) good_lane)
 
-    returned_now : Returned read split.state text
-    returned_now = returned read split.state text (all_here IsEchoable split.front split.rest split.state good) split.echo b.reads
+    own_good : IsEchoable split.state
+    own_good = all_here IsEchoable split.front split.rest split.state good
+
+    -- a front of the echo that is a message is the echo
+    whole : (content : Message) → read text ≡ Some content → text ≡ b.came.next
+    whole content is =
+        let back = reads_as split.state b.came.next own_good split.echo in
+        whole_echo split.state.state.object (count_of split.state) b.came.next text content (message.State back.echoed) split.echo back.reads.is b.came.front (message_is read text content is b.reads)
+
+    returned_now : text ≡ b.came.next → Returned read split.state text
+    returned_now same = returned read split.state text own_good (subst (IsEcho split.state.state.object (count_of split.state)) (sym same) split.echo) b.reads
 
     lane : Lane
     lane = split.state.lane
@@ -271,11 +296,17 @@ comes_back streams read before text b loaded = subst (AllByRecursion (GotFits st
     own_states : of_lane split.state.lane (states (lines_read read (tooks before))) ≡ of_lane split.state.lane split.front ++ split.state ∷ (of_lane split.state.lane split.rest ++ (stand split.state.lane).prefix.0)
     own_states = sym (ap (λ it. of_lane split.state.lane (states it)) taken_is) ∙ ((stand split.state.lane).prefix.1 ∙ (ap (λ it. it ++ (stand split.state.lane).prefix.0) echoed_is ∙ append_assoc (of_lane split.state.lane split.front) (split.state ∷ of_lane split.state.lane split.rest) (stand split.state.lane).prefix.0))
 
-    beyond : List LaneState
-    beyond = of_lane split.state.lane (states_behind (lines_read read (tooks before)) (lines_read read b.given.0))
+    twins : GivenTwins (lines_read read (tooks before)) (lines_read read (gives before))
+    twins = given_twins (lines_read read (tooks before)) (lines_read read (gives before)) (subst (λ list. IsPrefix list (messages (lines_read read (gives before)))) (sym (messages_read read (tooks before))) (subst (IsPrefix (filter_map read (tooks before))) (sym (messages_read read (gives before))) b.given))
 
-    given_states : of_lane split.state.lane (states (lines_read read (gives before))) ≡ of_lane split.state.lane split.front ++ split.state ∷ ((of_lane split.state.lane split.rest ++ (stand split.state.lane).prefix.0) ++ of_lane split.state.lane (states_behind (lines_read read (tooks before)) (lines_read read b.given.0)))
-    given_states = ap (λ it. of_lane split.state.lane (states it)) all_given ∙ (ap (of_lane split.state.lane) (states-append [] (lines_read read (tooks before)) (lines_read read b.given.0)) ∙ (filter-append (λ state. is_same_lane split.state.lane state.lane) (states (lines_read read (tooks before))) (states_behind (lines_read read (tooks before)) (lines_read read b.given.0)) ∙ (ap (λ it. it ++ of_lane split.state.lane (states_behind (lines_read read (tooks before)) (lines_read read b.given.0))) own_states ∙ append_assoc (of_lane split.state.lane split.front) (split.state ∷ (of_lane split.state.lane split.rest ++ (stand split.state.lane).prefix.0)) (of_lane split.state.lane (states_behind (lines_read read (tooks before)) (lines_read read b.given.0))))))
+    cut : CutTwins (of_lane split.state.lane split.front) split.state (of_lane split.state.lane twins.twins)
+    cut = cut_twins (of_lane split.state.lane split.front) (of_lane split.state.lane split.rest ++ (stand split.state.lane).prefix.0) split.state (of_lane split.state.lane twins.twins) (subst (λ list. AreTwins list (of_lane split.state.lane twins.twins)) own_states (twins_lane split.state.lane (states (lines_read read (tooks before))) twins.twins twins.alike))
+
+    given_states : of_lane split.state.lane (states (lines_read read (gives before))) ≡ cut.first ++ cut.one ∷ (cut.more ++ of_lane split.state.lane twins.rest)
+    given_states = ap (of_lane split.state.lane) twins.are ∙ (filter-append (λ state. is_same_lane split.state.lane state.lane) twins.twins twins.rest ∙ (ap (λ it. it ++ of_lane split.state.lane twins.rest) cut.is ∙ append_assoc cut.first (cut.one ∷ cut.more) (of_lane split.state.lane twins.rest)))
+
+    woven : Woven split.state.lane split.front cut.first
+    woven = weave split.state.lane split.front cut.first cut.alike
 
     all_before : AllByRecursion (λ seq. is_in seq (committed safe.acts) ≡ true) (covered split.state)
     all_before = all_here (λ state. AllByRecursion (λ seq. is_in seq (committed safe.acts) ≡ true) (covered state)) (of_lane split.state.lane split.front) (of_lane split.state.lane split.rest) split.state (subst (AllByRecursion (λ state. AllByRecursion (λ seq. is_in seq (committed safe.acts) ≡ true) (covered state))) echoed_is (stand split.state.lane).done)
@@ -286,36 +317,42 @@ comes_back streams read before text b loaded = subst (AllByRecursion (GotFits st
     row_stands : (entry : Entry) → IsOwnRow streams loaded.load.opening safe.acts entry → IsCommitted streams before entry
     row_stands entry own = record { load = loaded.load; among = subst (λ list. Contains list loaded.load) (sym loaded.own) (contains_first loaded.load []); stands = record { number = own.number; rows = own.rows; commit = commit_told read safe.acts loaded.load.events own.number own.rows safe.are own.commit; row = own.row; among = own.among; is = own.is } }
 
-    entry_stands : (last : LaneState) → IsPrefix last.before split.state.before → split.state.lane ≡ last.lane → (entry : Entry) → Contains (entries last.before) entry → covers last.lane entry.content.id ≡ true → IsCommitted streams before entry
+    entry_stands : (last : LaneState) → IsPrefix last.before cut.one.before → split.state.lane ≡ last.lane → (entry : Entry) → Contains (entries last.before) entry → covers last.lane entry.content.id ≡ true → IsCommitted streams before entry
     entry_stands last prefix same entry c covers_it =
-        let there = prefix_entries last.before split.state.before entry prefix c
+        let there = subst (λ list. Contains list entry) (sym (entries_alike split.state.before cut.one.before cut.twin.before)) (prefix_entries last.before cut.one.before entry prefix c)
         in let done = covered_done (λ seq. is_in seq (committed safe.acts) ≡ true) split.state.lane (entries split.state.before) entry all_before there (ap (λ it. covers it entry.content.id) same ∙ covers_it)
         in row_stands entry (rows_are_own streams loaded.load.opening safe.acts entry safe.fit (subst (λ it. Contains (entries it) entry) (sym taken_is) (prefix_entries split.state.before (lines_read read (tooks before)) entry state_prefix there)) done)
 
-    fits : GotFits streams read before (record { lane = split.state.lane; state = returned_now.back; before = [] })
-    fits last takes =
-        let ends = waits_at read split.state.lane before takes.waiting split.front (all_returned read split.front (gots before) (all_front IsEchoable split.front (split.state ∷ split.rest) good) split.are (reads_gots read before b.reading)) (split.state ∷ ((of_lane split.state.lane split.rest ++ (stand split.state.lane).prefix.0) ++ of_lane split.state.lane (states_behind (lines_read read (tooks before)) (lines_read read b.given.0))), given_states) takes.waits
-        in let more = (of_lane split.state.lane split.rest ++ (stand split.state.lane).prefix.0) ++ of_lane split.state.lane (states_behind (lines_read read (tooks before)) (lines_read read b.given.0))
-        in let whole : ends.over ++ (takes.takes.over ++ (last ∷ takes.rest)) ≡ of_lane split.state.lane split.front ++ split.state ∷ more = ap (λ it. ends.over ++ it) (sym takes.takes.splits) ∙ (sym ends.splits ∙ given_states)
+    fits : (same : text ≡ b.came.next) → GotFits streams read before (record { lane = split.state.lane; state = (returned_now same).back; before = [] })
+    fits same last takes =
+        let came = all_returned read split.front (gots before) (all_front IsEchoable split.front (split.state ∷ split.rest) good) split.are (reads_gots read before b.reading)
+        in let more = cut.more ++ of_lane split.state.lane twins.rest
+        in let ends = waits_at read split.state.lane before takes.waiting woven.list (returned_twins read split.front woven.list (gots before) woven.alike came) (cut.one ∷ more, given_states ∙ ap (λ it. it ++ cut.one ∷ more) (sym woven.own)) takes.waits
+        in let all : ends.over ++ (takes.takes.over ++ (last ∷ takes.rest)) ≡ cut.first ++ cut.one ∷ more = ap (λ it. ends.over ++ it) (sym takes.takes.splits) ∙ (sym ends.splits ∙ given_states)
         in let under = ends.low
-        in let low = taken_low ends.over takes.takes.over (last ∷ takes.rest) (of_lane split.state.lane split.front) more split.state returned_now.back whole (omega (arith, under)) takes.takes.others returned_now.same
+        in let counted = ap length woven.own
+        in let low = taken_low ends.over takes.takes.over (last ∷ takes.rest) cut.first more cut.one (returned_now same).back all (low_as (length ends.over) (length (of_lane split.state.lane woven.list)) (length cut.first) under counted) takes.takes.others (subst (λ state. Same state (returned_now same).back) cut.twin.state (returned_now same).same)
         in let long = length-append ends.over takes.takes.over
-        in let two : (ends.over ++ takes.takes.over) ++ last ∷ takes.rest ≡ of_lane split.state.lane split.front ++ split.state ∷ more = append_assoc ends.over takes.takes.over (last ∷ takes.rest) ∙ whole
-        in let prefix = rising_two [] (lines_read read (gives before)) (ends.over ++ takes.takes.over) takes.rest (of_lane split.state.lane split.front) more last split.state (subst (Rising [] (lines_read read (gives before))) given_states (rising_lane split.state.lane (lines_read read (gives before)))) two (omega (arith, low, long))
+        in let two : (ends.over ++ takes.takes.over) ++ last ∷ takes.rest ≡ cut.first ++ cut.one ∷ more = append_assoc ends.over takes.takes.over (last ∷ takes.rest) ∙ all
+        in let prefix = rising_two [] (lines_read read (gives before)) (ends.over ++ takes.takes.over) takes.rest cut.first more last cut.one (subst (Rising [] (lines_read read (gives before))) given_states (rising_lane split.state.lane (lines_read read (gives before)))) two (sum_low (length (ends.over ++ takes.takes.over)) (length ends.over) (length takes.takes.over) (length cut.first) long low)
         in let own = all_here (λ state. is_same_lane split.state.lane state.lane ≡ true) (ends.over ++ takes.takes.over) takes.rest last (subst (AllByRecursion (λ state. is_same_lane split.state.lane state.lane ≡ true)) (given_states ∙ sym two) (all_pass (λ state. is_same_lane split.state.lane state.lane) (states (lines_read read (gives before)))))
         in all_of (λ entry. covers last.lane entry.content.id ≡ true → IsCommitted streams before entry) (entries last.before) (λ entry c covers_it. entry_stands last prefix (lane_is split.state.lane last.lane own) entry c covers_it)
+
+    at : (found : Option Message) → read text ≡ found → AllByRecursion (GotFits streams read before) (states (line_read read text ∷ []))
+    at None is = rw is tt
+    at (Some content) is = let same = whole content is in subst (AllByRecursion (GotFits streams read before)) (sym (returned_now same).is) (fits same, tt)
 
 -- The law
 
 may_come : (streams : List ConfStream) (read : Reading) (before : List Event) (text : List ℕ) → Behind streams read before text → MayLoad before → AllByRecursion (GotFits streams read before) (states (line_read read text ∷ []))
 may_come streams read before text b (inr loaded) = comes_back streams read before text b loaded
-may_come streams read before text b (inl none) = absurd (not_none (gots before) (sym b.came.1 ∙ none.emits_none))
+may_come streams read before text b (inl none) = absurd (not_none (gots before) (sym b.came.are ∙ none.emits_none))
   where
-    not_none : (list : List (List ℕ)) → (list ++ text ∷ []) ++ b.came.0 ≡ [] → ⊥
+    not_none : (list : List (List ℕ)) → list ++ b.came.next ∷ b.came.rest ≡ [] → ⊥
     not_none [] e = grind (arith, e)
     not_none (first ∷ list) e = grind (arith, e)
 
-got_behind : (streams : List ConfStream) (read : Reading) (events front rest : List Event) (text : List ℕ) → IsReading read events → length (tooks events) < 2 ^ 64 → IsSafeDest streams read events → EachFits OpensFirst [] events → EachFits PipeFits [] events → events ≡ front ++ Got text ∷ rest → AllByRecursion (GotFits streams read front) (states (line_read read text ∷ []))
+got_behind : (streams : List ConfStream) (read : Reading) (events front rest : List Event) (text : List ℕ) → IsReading read events → length (tooks events) < 2 ^ 64 → IsSafeDest streams read events → EachFits OpensFirst [] events → EachFits (PipeFits read) [] events → events ≡ front ++ Got text ∷ rest → AllByRecursion (GotFits streams read front) (states (line_read read text ∷ []))
 got_behind streams read events front rest text reading short safe opens pipes is =
     let long = ap (λ list. length (tooks list)) is ∙ (ap length (filter_map-append took_in front (Got text ∷ rest)) ∙ length-append (tooks front) (tooks (Got text ∷ rest)))
     in let reads = subst (IsReading read) is reading
@@ -324,11 +361,11 @@ got_behind streams read events front rest text reading short safe opens pipes is
       reads = all_here (ReadsEvent read) front rest (Got text) reads;
       short = omega (arith, short, long);
       safe = fronts_are_safe streams read front (Got text ∷ rest) (subst (IsSafeDest streams read) is safe);
-      given = taken_given front (each_front PipeFits [] front (Got text ∷ rest) (subst (EachFits PipeFits []) is pipes));
-      came = each_at PipeFits [] front rest (Got text) (subst (EachFits PipeFits []) is pipes);
+      given = taken_given read front (each_front (PipeFits read) [] front (Got text ∷ rest) (subst (EachFits (PipeFits read) []) is pipes));
+      came = each_at (PipeFits read) [] front rest (Got text) (subst (EachFits (PipeFits read) []) is pipes);
     }) (may_load front (each_front OpensFirst [] front (Got text ∷ rest) (subst (EachFits OpensFirst []) is opens)))
 
-honest_at : (streams : List ConfStream) (read : Reading) (events front rest : List Event) (next : Event) → IsReading read events → length (tooks events) < 2 ^ 64 → IsSafeDest streams read events → EachFits OpensFirst [] events → EachFits PipeFits [] events → events ≡ front ++ next ∷ rest → HonestFits streams read front next
+honest_at : (streams : List ConfStream) (read : Reading) (events front rest : List Event) (next : Event) → IsReading read events → length (tooks events) < 2 ^ 64 → IsSafeDest streams read events → EachFits OpensFirst [] events → EachFits (PipeFits read) [] events → events ≡ front ++ next ∷ rest → HonestFits streams read front next
 honest_at streams read events front rest (Opened x y z) reading short safe opens pipes is = tt
 honest_at streams read events front rest (Took x) reading short safe opens pipes is = tt
 honest_at streams read events front rest TookEnd reading short safe opens pipes is = tt
@@ -347,4 +384,4 @@ honest_at streams read events front rest (Saved x) reading short safe opens pipe
 honest_at streams read events front rest (Ended x) reading short safe opens pipes is = tt
 
 pub pipes_are_honest : PipesAreHonest
-pipes_are_honest streams read attempt reading safe opens lines = each_from (HonestFits streams read) [] attempt.events (λ front rest next is. honest_at streams read attempt.events front rest next reading lines.few safe opens lines.pipes is)
+pipes_are_honest streams read attempt reading few safe opens pipes = each_from (HonestFits streams read) [] attempt.events (λ front rest next is. honest_at streams read attempt.events front rest next reading few safe opens pipes is)

@@ -16,3 +16,11 @@ pub mod Honesty
 pub mod Held
 pub mod Finishes
 pub mod HonestRuns
+pub mod SideHolds
+pub mod Sides
+pub mod Stamps
+pub mod Seen
+pub mod Twins
+pub mod EchoFronts
+pub mod Piped
+pub mod Worked

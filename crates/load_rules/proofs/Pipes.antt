@@ -357,27 +357,39 @@ may_load events each = load_from [] events each (inl (record { stored = refl; em
 
 -- What was taken was given
 
-given_step : (before : List Event) (event : Event) → PipeFits before event → IsPrefix (tooks before) (gives before) → IsPrefix (tooks (before ++ event ∷ [])) (gives (before ++ event ∷ []))
-given_step before (Opened x y z) fits prefix = subst (λ front. IsPrefix front (gives (before ++ (Opened x y z) ∷ []))) (sym (tooks-more before (Opened x y z) ∙ append-nil (tooks before))) (subst (IsPrefix (tooks before)) (sym (gives-more before (Opened x y z) ∙ append-nil (gives before))) prefix)
-given_step before (Took x) fits prefix = subst (λ front. IsPrefix front (gives (before ++ (Took x) ∷ []))) (sym (tooks-more before (Took x))) (subst (IsPrefix (tooks before ++ x ∷ [])) (sym (gives-more before (Took x) ∙ append-nil (gives before))) fits)
-given_step before TookEnd fits prefix = subst (λ front. IsPrefix front (gives (before ++ TookEnd ∷ []))) (sym (tooks-more before TookEnd ∙ append-nil (tooks before))) (subst (IsPrefix (tooks before)) (sym (gives-more before TookEnd ∙ append-nil (gives before))) prefix)
-given_step before (Committed x y) fits prefix = subst (λ front. IsPrefix front (gives (before ++ (Committed x y) ∷ []))) (sym (tooks-more before (Committed x y) ∙ append-nil (tooks before))) (subst (IsPrefix (tooks before)) (sym (gives-more before (Committed x y) ∙ append-nil (gives before))) prefix)
-given_step before (Emitted x) fits prefix = subst (λ front. IsPrefix front (gives (before ++ (Emitted x) ∷ []))) (sym (tooks-more before (Emitted x) ∙ append-nil (tooks before))) (subst (IsPrefix (tooks before)) (sym (gives-more before (Emitted x) ∙ append-nil (gives before))) prefix)
-given_step before (Merged x y z) fits prefix = subst (λ front. IsPrefix front (gives (before ++ (Merged x y z) ∷ []))) (sym (tooks-more before (Merged x y z) ∙ append-nil (tooks before))) (subst (IsPrefix (tooks before)) (sym (gives-more before (Merged x y z) ∙ append-nil (gives before))) prefix)
-given_step before (Shown x y z) fits prefix = subst (λ front. IsPrefix front (gives (before ++ (Shown x y z) ∷ []))) (sym (tooks-more before (Shown x y z) ∙ append-nil (tooks before))) (subst (IsPrefix (tooks before)) (sym (gives-more before (Shown x y z) ∙ append-nil (gives before))) prefix)
-given_step before (Started x) fits prefix = subst (λ front. IsPrefix front (gives (before ++ (Started x) ∷ []))) (sym (tooks-more before (Started x) ∙ append-nil (tooks before))) (subst (IsPrefix (tooks before)) (sym (gives-more before (Started x) ∙ append-nil (gives before))) prefix)
-given_step before (ReadLine x) fits prefix = subst (λ front. IsPrefix front (gives (before ++ (ReadLine x) ∷ []))) (sym (tooks-more before (ReadLine x) ∙ append-nil (tooks before))) (subst (IsPrefix (tooks before)) (sym (gives-more before (ReadLine x) ∙ append-nil (gives before))) prefix)
-given_step before ReadEnd fits prefix = subst (λ front. IsPrefix front (gives (before ++ ReadEnd ∷ []))) (sym (tooks-more before ReadEnd ∙ append-nil (tooks before))) (subst (IsPrefix (tooks before)) (sym (gives-more before ReadEnd ∙ append-nil (gives before))) prefix)
-given_step before (Given x) fits prefix = subst (λ front. IsPrefix front (gives (before ++ (Given x) ∷ []))) (sym (tooks-more before (Given x) ∙ append-nil (tooks before))) (prefix.0 ++ x ∷ [], gives-more before (Given x) ∙ (ap (λ list. list ++ x ∷ []) prefix.1 ∙ append_assoc (tooks before) prefix.0 (x ∷ [])))
-given_step before Closed fits prefix = subst (λ front. IsPrefix front (gives (before ++ Closed ∷ []))) (sym (tooks-more before Closed ∙ append-nil (tooks before))) (subst (IsPrefix (tooks before)) (sym (gives-more before Closed ∙ append-nil (gives before))) prefix)
-given_step before (Got x) fits prefix = subst (λ front. IsPrefix front (gives (before ++ (Got x) ∷ []))) (sym (tooks-more before (Got x) ∙ append-nil (tooks before))) (subst (IsPrefix (tooks before)) (sym (gives-more before (Got x) ∙ append-nil (gives before))) prefix)
-given_step before GotEnd fits prefix = subst (λ front. IsPrefix front (gives (before ++ GotEnd ∷ []))) (sym (tooks-more before GotEnd ∙ append-nil (tooks before))) (subst (IsPrefix (tooks before)) (sym (gives-more before GotEnd ∙ append-nil (gives before))) prefix)
-given_step before (Saved x) fits prefix = subst (λ front. IsPrefix front (gives (before ++ (Saved x) ∷ []))) (sym (tooks-more before (Saved x) ∙ append-nil (tooks before))) (subst (IsPrefix (tooks before)) (sym (gives-more before (Saved x) ∙ append-nil (gives before))) prefix)
-given_step before (Ended x) fits prefix = subst (λ front. IsPrefix front (gives (before ++ (Ended x) ∷ []))) (sym (tooks-more before (Ended x) ∙ append-nil (tooks before))) (subst (IsPrefix (tooks before)) (sym (gives-more before (Ended x) ∙ append-nil (gives before))) prefix)
+abbrev HasGiven : Reading → List Event → Type 0
+HasGiven read events = IsPrefix (filter_map read (tooks events)) (filter_map read (gives events))
 
-given_from : (before events : List Event) → EachFits PipeFits before events → IsPrefix (tooks before) (gives before) → IsPrefix (tooks (before ++ events)) (gives (before ++ events))
-given_from before [] each prefix = subst (λ list. IsPrefix (tooks list) (gives list)) (sym (append-nil before)) prefix
-given_from before (event ∷ events) each prefix = subst (λ list. IsPrefix (tooks list) (gives list)) (append_assoc before (event ∷ []) events) (given_from (before ++ event ∷ []) events each.1 (given_step before event each.0 prefix))
+given_quiet : (read : Reading) (before : List Event) (event : Event) → tooks (event ∷ []) ≡ [] → gives (event ∷ []) ≡ [] → HasGiven read before → HasGiven read (before ++ event ∷ [])
+given_quiet read before event no_took no_given prefix =
+    let took = tooks-more before event ∙ (ap (λ more. tooks before ++ more) no_took ∙ append-nil (tooks before)) in
+    let given = gives-more before event ∙ (ap (λ more. gives before ++ more) no_given ∙ append-nil (gives before)) in
+    subst (λ list. IsPrefix (filter_map read list) (filter_map read (gives (before ++ event ∷ [])))) (sym took) (subst (λ list. IsPrefix (filter_map read (tooks before)) (filter_map read list)) (sym given) prefix)
 
-pub taken_given : (events : List Event) → EachFits PipeFits [] events → IsPrefix (tooks events) (gives events)
-taken_given events each = given_from [] events each ([], refl)
+given_step : (read : Reading) (before : List Event) (event : Event) → PipeFits read before event → HasGiven read before → HasGiven read (before ++ event ∷ [])
+given_step read before (Took x) fits prefix =
+    subst (λ list. IsPrefix (filter_map read list) (filter_map read (gives (before ++ Took x ∷ [])))) (sym (tooks-more before (Took x))) (subst (λ list. IsPrefix (filter_map read (tooks before ++ x ∷ [])) (filter_map read list)) (sym (gives-more before (Took x) ∙ append-nil (gives before))) fits)
+given_step read before (Given x) fits prefix =
+    subst (λ list. IsPrefix (filter_map read list) (filter_map read (gives (before ++ Given x ∷ [])))) (sym (tooks-more before (Given x) ∙ append-nil (tooks before)))
+    (prefix.0 ++ filter_map read (x ∷ []), ap (filter_map read) (gives-more before (Given x)) ∙ (filter_map-append read (gives before) (x ∷ []) ∙ (ap (λ list. list ++ filter_map read (x ∷ [])) prefix.1 ∙ append_assoc (filter_map read (tooks before)) prefix.0 (filter_map read (x ∷ [])))))
+given_step read before (Opened x y z) fits prefix = given_quiet read before (Opened x y z) refl refl prefix
+given_step read before TookEnd fits prefix = given_quiet read before TookEnd refl refl prefix
+given_step read before (Committed x y) fits prefix = given_quiet read before (Committed x y) refl refl prefix
+given_step read before (Emitted x) fits prefix = given_quiet read before (Emitted x) refl refl prefix
+given_step read before (Merged x y z) fits prefix = given_quiet read before (Merged x y z) refl refl prefix
+given_step read before (Shown x y z) fits prefix = given_quiet read before (Shown x y z) refl refl prefix
+given_step read before (Started x) fits prefix = given_quiet read before (Started x) refl refl prefix
+given_step read before (ReadLine x) fits prefix = given_quiet read before (ReadLine x) refl refl prefix
+given_step read before ReadEnd fits prefix = given_quiet read before ReadEnd refl refl prefix
+given_step read before Closed fits prefix = given_quiet read before Closed refl refl prefix
+given_step read before (Got x) fits prefix = given_quiet read before (Got x) refl refl prefix
+given_step read before GotEnd fits prefix = given_quiet read before GotEnd refl refl prefix
+given_step read before (Saved x) fits prefix = given_quiet read before (Saved x) refl refl prefix
+given_step read before (Ended x) fits prefix = given_quiet read before (Ended x) refl refl prefix
+
+given_from : (read : Reading) (before events : List Event) → EachFits (PipeFits read) before events → HasGiven read before → HasGiven read (before ++ events)
+given_from read before [] each prefix = subst (HasGiven read) (sym (append-nil before)) prefix
+given_from read before (event ∷ events) each prefix = subst (HasGiven read) (append_assoc before (event ∷ []) events) (given_from read (before ++ event ∷ []) events each.1 (given_step read before event each.0 prefix))
+
+pub taken_given : (read : Reading) (events : List Event) → EachFits (PipeFits read) [] events → IsPrefix (filter_map read (tooks events)) (filter_map read (gives events))
+taken_given read events each = given_from read [] events each ([], refl)

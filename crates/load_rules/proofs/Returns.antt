@@ -22,6 +22,7 @@ use Rattle.airbyte_message.specs.declared.read.MessageType.{MessageType}
 use Rattle.airbyte_message.specs.declared.read.MessageType.TheVariants as types
 use Rattle.airbyte_message.proofs.EchoBack.{echo_back}
 use Rattle.load_rules.specs.Prefixes.{IsPrefix}
+use Rattle.airbyte_message.specs.EchoReads.{ReadsAsEcho}
 use Rattle.load_rules.specs.Lines.{Line, Reading, line_read, lines_read, ReadsText, record_in, state_in}
 use Rattle.load_rules.specs.Taken.{LaneState, state_of, state_of_lane, states, states_behind, of_lane, is_same_lane, count_of, counts_record, counts_state, covers, is_of_lane}
 use Rattle.load_rules.specs.Attempts.{Waiting, none_given, with_given, TakesFirst, StateLeaves, LineLeaves, LeavesAll, gives, gots}
@@ -107,11 +108,16 @@ found_is text (Some other) content answer is = ap (λ it. Some it) (sym (answer.
 not_legacy : (state : State) (lane : Lane) → lane_of state.kind ≡ Some lane → state.kind ≢ kind.Legacy
 not_legacy state lane has legacy = let none = sym (ap lane_of legacy) ∙ has in grind (arith, none)
 
-pub returned : (read : Reading) (state : LaneState) (text : List ℕ) → IsEchoable state → IsEcho state.state.object (count_of state) text → ReadsText read text → Returned read state text
-returned read state text good echo reads =
+-- an echo reads as the state, come back
+pub reads_as : (state : LaneState) (text : List ℕ) → IsEchoable state → IsEcho state.state.object (count_of state) text → ReadsAsEcho state.state (count_of state) text
+reads_as state text good echo =
     let low = since_low state.lane 0 state.before
     in let high = good.high
-    in let came = echo_back state.state (count_of state) text good.right (omega (arith, low, high)) echo
+    in echo_back state.state (count_of state) text good.right (omega (arith, low, high)) echo
+
+pub returned : (read : Reading) (state : LaneState) (text : List ℕ) → IsEchoable state → IsEcho state.state.object (count_of state) text → ReadsText read text → Returned read state text
+returned read state text good echo reads =
+    let came = reads_as state text good echo
     in record {
       back = came.echoed;
       is = ap (λ found. state_of [] (state_in found) ++ []) (found_is text (read text) (message.State came.echoed) reads came.reads.is) ∙ ap (λ lane. state_of_lane [] came.echoed lane ++ []) (ap lane_of came.back.kind ∙ good.has);

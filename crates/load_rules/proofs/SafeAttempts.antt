@@ -17,8 +17,8 @@ use Rattle.load_rules.specs.Lines.{Reading}
 use Rattle.load_rules.specs.Loads.{Load, loads, loads_after, with_event, store_events}
 use Rattle.load_rules.specs.SafeDest.{IsSafeLoad, IsSafeDest}
 use Rattle.load_rules.specs.Attempts.{Attempt, attempts, attempts_after, attempt_with}
-use Rattle.load_rules.specs.Engine.{OpensFirst, HasOpened, RunFitsIn, RunFits}
-use Rattle.load_rules.specs.Laws.{IsSafeAttempt, AttemptsAreSafe}
+use Rattle.load_rules.specs.Engine.{OpensFirst, HasOpened, OwnFits, RunFitsIn, RunFits}
+use Rattle.load_rules.specs.Laws.{TakeFits, IsSafeAttempt, AttemptsAreSafe}
 use Rattle.load_rules.proofs.TakenLists.{each_more}
 use Rattle.load_rules.proofs.LoadFronts.{goes_on, fronts_are_safe}
 
@@ -139,6 +139,24 @@ safe_of streams read events before safe (inr in_load) = record {
   each = subst (AllByRecursion (IsSafeLoad streams read)) (sym in_load.own) ((subst (AllByRecursion (IsSafeLoad streams read)) in_load.whole safe.each).0, tt);
 }
 
+take_fits : (streams : List ConfStream) (read : Reading) (before : List Event) (attempt : Attempt) (event : Event) → OwnFits streams read before attempt event → TakeFits read attempt.events event
+take_fits streams read before attempt (Took x) fits = fits
+take_fits streams read before attempt (Opened x y z) fits = tt
+take_fits streams read before attempt TookEnd fits = tt
+take_fits streams read before attempt (Committed x y) fits = tt
+take_fits streams read before attempt (Emitted x) fits = tt
+take_fits streams read before attempt (Merged x y z) fits = tt
+take_fits streams read before attempt (Shown x y z) fits = tt
+take_fits streams read before attempt (Started x) fits = tt
+take_fits streams read before attempt (ReadLine x) fits = tt
+take_fits streams read before attempt ReadEnd fits = tt
+take_fits streams read before attempt (Given x) fits = tt
+take_fits streams read before attempt Closed fits = tt
+take_fits streams read before attempt (Got x) fits = tt
+take_fits streams read before attempt GotEnd fits = tt
+take_fits streams read before attempt (Saved x) fits = tt
+take_fits streams read before attempt (Ended x) fits = tt
+
 abbrev pub Kept : List Event → List Attempt → Type 0
 Kept before [] = Unit {0}
 Kept before (attempt ∷ older) = Stage attempt.events before
@@ -151,7 +169,7 @@ first_stands : (streams : List ConfStream) (read : Reading) (before : List Event
 first_stands streams read before event [] safe fits stands = record { all = tt; kept = tt }
 first_stands streams read before event (attempt ∷ older) safe fits stands =
     let stage = stage_step attempt.events before event fits.opens stands.kept
-    in record { all = (record { safe = safe_of streams read (attempt.events ++ event ∷ []) (before ++ event ∷ []) safe stage; opens = each_more OpensFirst [] attempt.events event stands.all.0.opens fits.opens }, stands.all.1); kept = stage }
+    in record { all = (record { safe = safe_of streams read (attempt.events ++ event ∷ []) (before ++ event ∷ []) safe stage; opens = each_more OpensFirst [] attempt.events event stands.all.0.opens fits.opens; takes = each_more (TakeFits read) [] attempt.events event stands.all.0.takes (take_fits streams read before attempt event fits.own) }, stands.all.1); kept = stage }
 
 event_stands : (streams : List ConfStream) (read : Reading) (before : List Event) (event : Event) (list : List Attempt) → IsSafeDest streams read (before ++ event ∷ []) → RunFitsIn streams read before list event → Stands streams read before list → Stands streams read (before ++ event ∷ []) (attempts_after list event)
 event_stands streams read before (Opened x y z) list safe fits stands = first_stands streams read before (Opened x y z) list safe fits stands
@@ -161,7 +179,7 @@ event_stands streams read before (Committed x y) list safe fits stands = first_s
 event_stands streams read before (Emitted x) list safe fits stands = first_stands streams read before (Emitted x) list safe fits stands
 event_stands streams read before (Merged x y z) list safe fits stands = first_stands streams read before (Merged x y z) list safe fits stands
 event_stands streams read before (Shown x y z) list safe fits stands = first_stands streams read before (Shown x y z) list safe fits stands
-event_stands streams read before (Started x) list safe fits stands = record { all = (record { safe = record { opened = refl; each = tt }; opens = tt }, stands.all); kept = inl refl }
+event_stands streams read before (Started x) list safe fits stands = record { all = (record { safe = record { opened = refl; each = tt }; opens = tt; takes = tt }, stands.all); kept = inl refl }
 event_stands streams read before (ReadLine x) list safe fits stands = first_stands streams read before (ReadLine x) list safe fits stands
 event_stands streams read before ReadEnd list safe fits stands = first_stands streams read before ReadEnd list safe fits stands
 event_stands streams read before (Given x) list safe fits stands = first_stands streams read before (Given x) list safe fits stands

@@ -1,5 +1,5 @@
 -- What holds of each load, of each run of the machine, and of the attempts of a trace.
-use Rattle.std.specs.Prelude.{◌≡◌, ℕ, ◌<◌, ◌^◌, List, map, filter, [], ◌∷◌, ◌++◌, length, slice_get, Some, Bool, not, true, false, Contains, ◌↔◌}
+use Rattle.std.specs.Prelude.{◌≡◌, ◌≢◌, ◌⊎◌, ℕ, ◌<◌, ◌^◌, List, map, filter, [], ◌∷◌, ◌++◌, length, slice_get, Some, Bool, not, true, false, Contains, ◌↔◌}
 use Rattle.std.specs.List.{AllByRecursion, take_while}
 use Rattle.basics.specs.declared.stream.StreamId.{StreamId}
 use Rattle.outside.specs.declared.event.Event.{Event}
@@ -8,20 +8,26 @@ use Rattle.outside.specs.declared.event.RawRow.{RawRow}
 use Rattle.catalog.specs.declared.stream.ConfStream.{ConfStream}
 use Rattle.outside.specs.declared.event.StreamPlan.{StreamPlan}
 use Rattle.outside.specs.Dock.{is_opening}
+use Rattle.json_span.specs.Grammar.{Space, space_byte}
 use Rattle.airbyte_message.specs.Lanes.{Lane, LaneCovers}
-use Rattle.dedup_merge.specs.Merges.{MergesFit}
+use Rattle.airbyte_message.specs.Messages.{IsMessage}
+use Rattle.airbyte_message.specs.declared.message.Message.{Message}
+use Rattle.outside.specs.Tables.{tables_of, table_in}
+use Rattle.raw_tables.specs.Visible.{IsVisible}
+use Rattle.dedup_merge.specs.Merges.{MergesFit, SideStands, merged_at}
 use Rattle.load_rules.specs.Prefixes.{EachFits, IsPrefix}
-use Rattle.load_rules.specs.Lines.{Reading, IsReading}
+use Rattle.load_rules.specs.Lines.{Reading, ReadsText, IsReading}
 use Rattle.load_rules.specs.Taken.{Entry, entries, covers, is_in, of_lane, states}
 use Rattle.load_rules.specs.Loads.{Opening, Load, loads, tooks, held_in}
 use Rattle.load_rules.specs.Rows.{IsRowOf}
 use Rattle.load_rules.specs.Acts.{Act, AreActs, Commits, Echoes, taken, committed, echoed}
 use Rattle.load_rules.specs.SafeDest.{EchoFits, Fits, IsSafeLoad, IsSafeDest, uncommitted}
-use Rattle.load_rules.specs.Finished.{IsFinished, IsIncomplete}
+use Rattle.load_rules.specs.Marks.{IsSeenOf}
+use Rattle.load_rules.specs.Finished.{is_dedup, StreamIsDone, IsFinished, IsIncomplete}
 use Rattle.load_rules.specs.Stores.{CommittedFits, IsStoreRun}
 use Rattle.load_rules.specs.Attempts.{Attempt, attempts, gives, gots, emits}
 use Rattle.load_rules.specs.Honest.{IsHonestAttempt, IsHonest, AddsHonestly}
-use Rattle.load_rules.specs.Engine.{OpensFirst, IsEngineRun}
+use Rattle.load_rules.specs.Engine.{OpensFirst, TakesGiven, IsEngineRun}
 use Rattle.load_rules.specs.Machine.{Machine, Step, start, run, accepted, CommitsOwnRows, BringsOwnRows, IsDrained, flags, IsTail}
 
 -- The machine
@@ -159,6 +165,19 @@ RowsAreOwn =
 abbrev pub StoreMergesFit : Type 0
 StoreMergesFit = (trace : List Event) → IsStoreRun trace → MergesFit trace
 
+-- Along a run of a store, the load's side of each stream stands with the rows that were merged into it: at each opening, commit,
+-- merge and showing.
+abbrev pub SidesStand : Type 0
+SidesStand = (trace : List Event) (number : ℕ) → IsStoreRun trace → SideStands (tables_of trace) number (merged_at trace number)
+
+-- Where a stream's part of a load is done, as each is in a finished load, what is visible of its table is what a reader is to see of
+-- all rows that were ever committed.
+abbrev pub VisibleIsSeen : Type 0
+VisibleIsSeen =
+    (trace : List Event) (number : ℕ) (stream : ConfStream) (rows : List RawRow)
+    → IsStoreRun trace → StreamIsDone (tables_of trace) number stream
+    → IsVisible (is_dedup stream.dest) (table_in (tables_of trace).streams stream.id) rows → IsSeenOf (is_dedup stream.dest) trace stream.id rows
+
 -- A commit that keeps its load safe has the number of that load, and sequences that are new in it, whatever stands before the
 -- load.
 abbrev pub SafeCommitsFit : Type 0
@@ -172,28 +191,59 @@ FinishedIsComplete = (streams : List ConfStream) (read : Reading) (trace : List 
 
 -- Attempts
 
--- Lines through two pipes, whole: what the destination takes was given, and what comes back was emitted, in order.
-abbrev pub PipeFits : List Event → Event → Type 0
-PipeFits before (event.Took text) = IsPrefix (tooks before ++ text ∷ []) (gives before)
-PipeFits before (event.Got text) = IsPrefix (gots before ++ text ∷ []) (emits before)
-PipeFits before event = Unit {0}
+-- A line that comes out of a pipe behind these is the next of those that were written, or a front of it, where the pipe ended within
+-- the line.
+pub record ComesNext (written came : List (List ℕ)) (text : List ℕ) : Type 0 where
+  pub next : List ℕ
+  pub rest : List (List ℕ)
+  pub are : written ≡ came ++ next ∷ rest
+  pub front : IsPrefix text next
 
--- an attempt whose lines go through two pipes, whole; the lines that it takes are fewer than a count can tell
-pub record HasWholeLines (attempt : Attempt) : Type 0 where
-  pub few : length (tooks attempt.events) < 2 ^ 64
-  pub pipes : EachFits PipeFits [] attempt.events
+-- Out of the pipe from the destination come the emitted lines, in order. (Each stands behind whole ones, so only the last may be cut.)
+abbrev pub BackFits : List Event → Event → Type 0
+BackFits before (event.Got text) = ComesNext (emits before) (gots before) text
+BackFits before event = Unit {0}
 
--- whole lines through two pipes to a safe destination make an honest attempt
+-- Lines through two pipes: the messages that the destination takes are the first of those that were given, and what comes back was
+-- emitted.
+abbrev pub PipeFits : Reading → List Event → Event → Type 0
+PipeFits read before (event.Took text) = TakesGiven read before text
+PipeFits read before event = BackFits before event
+
+-- the line is a message, and its last byte is no white space
+pub record EndsInMessage (line : List ℕ) : Type 0 where
+  pub content : Message
+  pub is : IsMessage line content
+  pub front : List ℕ
+  pub last : ℕ
+  pub spelled : line ≡ front ++ last ∷ []
+  pub ends : (space : Space) → last ≢ space_byte space
+
+-- A line that comes out of the pipe to the destination, and that is whole or cut from a message, is taken as one that was given.
+abbrev pub PipedAreTaken : Type 0
+PipedAreTaken =
+    (read : Reading) (before : List Event) (text : List ℕ)
+    → ReadsText read text → (came : ComesNext (gives before) (tooks before) text) → (text ≡ came.next) ⊎ EndsInMessage came.next → TakesGiven read before text
+
+-- lines through two pipes, perhaps cut where these end, to a safe destination make an honest attempt; the lines that it takes are
+-- fewer than a count can tell
 abbrev pub PipesAreHonest : Type 0
 PipesAreHonest =
     (streams : List ConfStream) (read : Reading) (attempt : Attempt)
-    → IsReading read attempt.events → IsSafeDest streams read attempt.events → EachFits OpensFirst [] attempt.events → HasWholeLines attempt
+    → IsReading read attempt.events → length (tooks attempt.events) < 2 ^ 64
+    → IsSafeDest streams read attempt.events → EachFits OpensFirst [] attempt.events → EachFits (PipeFits read) [] attempt.events
     → IsHonestAttempt streams read attempt
 
--- An attempt of a run of the engine, by itself: a safe destination that opens one load, and does all else behind it.
+-- An attempt of a run of the engine, by itself: a safe destination that opens one load, and does all else behind it; the messages
+-- that it takes were given.
+abbrev pub TakeFits : Reading → List Event → Event → Type 0
+TakeFits read before (event.Took text) = TakesGiven read before text
+TakeFits read before event = Unit {0}
+
 pub record IsSafeAttempt (streams : List ConfStream) (read : Reading) (attempt : Attempt) : Type 0 where
   pub safe : IsSafeDest streams read attempt.events
   pub opens : EachFits OpensFirst [] attempt.events
+  pub takes : EachFits (TakeFits read) [] attempt.events
 
 abbrev pub AttemptsAreSafe : Type 0
 AttemptsAreSafe = (streams : List ConfStream) (read : Reading) (trace : List Event) → IsEngineRun streams read trace → AllByRecursion (IsSafeAttempt streams read) (attempts trace)
@@ -202,11 +252,17 @@ abbrev pub is_started : Event → Bool
 is_started (event.Started plan) = true
 is_started event = false
 
--- The attempts of a run of the engine, with whole lines through two pipes in each, are honest.
+-- what comes back in an attempt was emitted in it; the lines that it takes are fewer than a count can tell
+pub record ComesBack (attempt : Attempt) : Type 0 where
+  pub few : length (tooks attempt.events) < 2 ^ 64
+  pub back : EachFits BackFits [] attempt.events
+
+-- The attempts of a run of the engine are honest, where what comes back in each was emitted, perhaps cut where the pipe ends. (That
+-- what each takes was given is part of the run.)
 abbrev pub RunsAreHonest : Type 0
 RunsAreHonest =
     (streams : List ConfStream) (read : Reading) (trace : List Event)
-    → IsReading read trace → IsEngineRun streams read trace → AllByRecursion HasWholeLines (attempts trace) → IsHonest streams read trace
+    → IsReading read trace → IsEngineRun streams read trace → AllByRecursion ComesBack (attempts trace) → IsHonest streams read trace
 
 -- Where each attempt that the added events begin is honest, and nothing comes back before the first of them, the events add
 -- honestly, whatever was before.

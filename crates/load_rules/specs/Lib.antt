@@ -14,3 +14,4 @@ pub mod Honest
 pub mod Engine
 pub mod Machine
 pub mod Laws
+pub mod Examples

@@ -1,5 +1,6 @@
 // The laws of loads, each as the contract of a function that does nothing.
-ghost use Rattle.load_rules.specs.Laws.{AttemptsAreSafe, DrainedIsDone, FinishedIsComplete, FrontsAreRuns, FrontsAreSafe, HeldAreUncommitted, HonestAttemptsAdd, LanesCover, NoStateIsLeft, OpeningIsSafe, OrderIsFree, PipesAreHonest, PrefixesFit, RowsAreOwn, RunsAreHonest, RunsAreOrdered, RunsAreSafe, RunsGrow, RunsStaySafe, SafeCommitsFit, SealedInFront, StaysSafe, StoreMergesFit};
+ghost use Rattle.load_rules.specs.Examples.{EchoesAsWorked, EndsAsWorked, RunsAsWorked, StoresAsWorked};
+ghost use Rattle.load_rules.specs.Laws.{AttemptsAreSafe, DrainedIsDone, FinishedIsComplete, FrontsAreRuns, FrontsAreSafe, HeldAreUncommitted, HonestAttemptsAdd, LanesCover, NoStateIsLeft, OpeningIsSafe, OrderIsFree, PipedAreTaken, PipesAreHonest, PrefixesFit, RowsAreOwn, RunsAreHonest, RunsAreOrdered, RunsAreSafe, RunsGrow, RunsStaySafe, SafeCommitsFit, SealedInFront, SidesStand, StaysSafe, StoreMergesFit, VisibleIsSeen};
 
 /// Whatever the machine does, its load is safe.
 pub fn runs_are_safe()
@@ -76,7 +77,12 @@ pub fn rows_are_own()
     ensures { RowsAreOwn }
 {}
 
-/// Whole lines through two pipes to a safe destination make an honest attempt.
+/// A line out of the pipe to the destination is taken as one that was given.
+pub fn piped_are_taken()
+    ensures { PipedAreTaken }
+{}
+
+/// Lines through two pipes to a safe destination, perhaps cut where the pipes end, make an honest attempt.
 pub fn pipes_are_honest()
     ensures { PipesAreHonest }
 {}
@@ -89,6 +95,16 @@ pub fn lanes_cover()
 /// The merges of a store whose events fit one another fit.
 pub fn store_merges_fit()
     ensures { StoreMergesFit }
+{}
+
+/// The load's side of each stream stands with what was merged into it.
+pub fn sides_stand()
+    ensures { SidesStand }
+{}
+
+/// What is visible of a table that is done is what is to be seen of all that was committed.
+pub fn visible_is_seen()
+    ensures { VisibleIsSeen }
 {}
 
 /// A commit that keeps a trace safe has the number of its load, and new sequences.
@@ -114,4 +130,24 @@ pub fn runs_are_honest()
 /// Honest attempts add honestly, whatever was before.
 pub fn honest_attempts_add()
     ensures { HonestAttemptsAdd }
+{}
+
+/// Runs of the machine that were worked by hand.
+pub fn runs_as_worked()
+    ensures { RunsAsWorked }
+{}
+
+/// Traces of a store that were worked by hand.
+pub fn stores_as_worked()
+    ensures { StoresAsWorked }
+{}
+
+/// Echoes that were worked by hand.
+pub fn echoes_as_worked()
+    ensures { EchoesAsWorked }
+{}
+
+/// Ends of loads that were worked by hand.
+pub fn ends_as_worked()
+    ensures { EndsAsWorked }
 {}

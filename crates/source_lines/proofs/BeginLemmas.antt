@@ -1,12 +1,12 @@
 -- What a source is begun with, check by check.
-use Rattle.std.proofs.Common.{◌≡◌, ◌≢◌, ◌∙◌, ◌⊎◌, inl, inr, ℕ, zero, suc, ◌+◌, ◌<◌, ◌≤◌, List, [], ◌∷◌, ◌++◌, map, length, take, drop, Option, None, Some, Result, Ok, Err, MatchResult, IfErr, IsErrAnd, Bool, option_map, true, false, cond, refl, sym, ap, subst, arith, slice_get, slice_set, get_or}
+use Rattle.std.proofs.Common.{◌≡◌, ◌≢◌, ◌∙◌, inl, inr, ℕ, zero, suc, ◌+◌, ◌<◌, List, [], ◌∷◌, ◌++◌, map, length, drop, Option, None, Some, Result, Ok, Err, MatchResult, IfErr, IsErrAnd, Bool, option_map, true, false, cond, refl, sym, ap, subst, arith, slice_get, slice_set}
 use Rattle.std.proofs.lemmas.Bool.{cases_Bool}
-use Rattle.std.proofs.lemmas.List.{take_more, drop_more}
-use Rattle.std.proofs.lemmas.Option.{slice_get_within, get_or_from_slice_get, slice_get-get_or}
+use Rattle.std.proofs.lemmas.List.{drop_more}
+use Rattle.std.proofs.lemmas.Option.{slice_get_within, get_or_from_slice_get}
 use Rattle.basics.specs.declared.stream.StreamId.{StreamId}
 use Rattle.stream_index.specs.Same.{is_same_stream}
 use Rattle.stream_index.proofs.IndexLemmas.{Decides-stream}
-use Rattle.json_fields.specs.Answer.{IsOnly, IsAnswer}
+use Rattle.json_fields.specs.Answer.{IsOnly}
 use Rattle.airbyte_message.specs.State.{State}
 use Rattle.airbyte_message.specs.declared.message.StateKind.{StateKind}
 use Rattle.airbyte_message.specs.declared.message.StateKind.TheVariants as kind
@@ -223,3 +223,47 @@ pub fault_told : {A E : Type 0} (result : Result A Status) (told : E → Status)
     → (fault ≢ none → P (told fault)) → IfErr result (λ why. why ≢ status.NoMemory → P why)
 fault_told (Ok value) told fault none P is memory next = absurd is
 fault_told {A} {E} (Err why) told fault none P is memory next = λ other. subst P (sym is) (next (λ same. other (is ∙ (ap told same ∙ memory))))
+
+-- ---- what the checks say of the streams
+
+starts_all : {Start : Type 0} (Starts : ConfStream → Option (List ℕ) → Start → Type 0) (states : List State) (streams : List ConfStream) (starts : List Start) → AreStarts Starts states streams starts → length starts ≡ length streams
+starts_all Starts states [] [] are = refl
+starts_all Starts states [] (start ∷ starts) are = absurd are
+starts_all Starts states (stream ∷ streams) [] are = absurd are
+starts_all Starts states (stream ∷ streams) (start ∷ starts) are = ap (λ (n : ℕ). suc n) (starts_all Starts states streams starts are.1)
+
+ok_is : {A : Type 0} (a b : A) → ◌≡◌ {A = Result A Status} (Ok a) (Ok b) → a ≡ b
+ok_is a b e = cc
+
+ok_err : {A : Type 0} (a : A) (why : Status) → ¬ (Ok a ≡ Err why)
+ok_err a why e = cc
+
+streams_start : {Start : Type 0} (Starts : ConfStream → Option (List ℕ) → Start → Type 0) (states : List State) (streams found : List ConfStream) (starts : List Start) → BeginsStreams Starts states streams (Ok (found, starts)) → length starts ≡ length found
+streams_start {Start} Starts states streams found starts is = elim is [
+  | inl refused ↦ absurd (ok_err (found, starts) (status.BadState state.Blob) refused.1)
+  | inr some ↦ (
+      let same : (found, starts) ≡ (streams, some.0) = ok_is (found, starts) (streams, some.0) some.2 in
+      ap (λ (p : List ConfStream × List Start). length p.1) same ∙ (starts_all Starts states streams some.0 some.1 ∙ ap (λ (p : List ConfStream × List Start). length p.0) (sym same)))
+]
+
+unless_start : {Start : Type 0} (Starts : ConfStream → Option (List ℕ) → Start → Type 0) (is_global : Bool) (states : List State) (streams found : List ConfStream) (starts : List Start) → BeginsUnless is_global (BeginsStreams Starts states streams) (Ok (found, starts)) → length starts ≡ length found
+unless_start Starts true states streams found starts is = absurd (ok_err (found, starts) (status.BadState state.Blob) is)
+unless_start Starts false states streams found starts is = streams_start Starts states streams found starts is
+
+states_start : {Start : Type 0} (Starts : ConfStream → Option (List ℕ) → Start → Type 0) (text : List ℕ) (streams found : List ConfStream) (starts : List Start) (reading : Result (List State) StateFault)
+    → MatchResult reading (λ states. BeginsUnless (has_kind is_global_kind states) (BeginsStreams Starts states streams) (Ok (found, starts))) (λ fault. ◌≡◌ {A = Begun Start} (Ok (found, starts)) (Err (state_status fault))) → length starts ≡ length found
+states_start Starts text streams found starts (Ok states) is = unless_start Starts (has_kind is_global_kind states) states streams found starts is
+states_start Starts text streams found starts (Err fault) is = absurd (ok_err (found, starts) (state_status fault) is)
+
+known_start : {Start : Type 0} (Starts : ConfStream → Option (List ℕ) → Start → Type 0) (unknown : Option ℕ) (text : List ℕ) (streams found : List ConfStream) (starts : List Start) → BeginsKnown unknown (BeginsStates Starts text streams) (Ok (found, starts)) → length starts ≡ length found
+known_start Starts (Some number) text streams found starts is = absurd (ok_err (found, starts) (status.BadCatalog (catalog.Missing number)) is)
+known_start Starts None text streams found starts is = states_start Starts text streams found starts is.0 is.2
+
+reading_start : {Start : Type 0} (Starts : ConfStream → Option (List ℕ) → Start → Type 0) (is_known : List ℕ → Bool) (states : List ℕ) (found : List ConfStream) (starts : List Start) (reading : Result (List ConfStream) CatalogFault)
+    → MatchResult reading (λ streams. BeginsKnown (first_unknown is_known 0 streams) (BeginsStates Starts states streams) (Ok (found, starts))) (λ fault. ◌≡◌ {A = Begun Start} (Ok (found, starts)) (Err (catalog_status fault))) → length starts ≡ length found
+reading_start Starts is_known states found starts (Ok streams) is = known_start Starts (first_unknown is_known 0 streams) states streams found starts is
+reading_start Starts is_known states found starts (Err fault) is = absurd (ok_err (found, starts) (catalog_status fault) is)
+
+-- each stream that a source is begun with has a start
+pub each_starts : {Start : Type 0} (Starts : ConfStream → Option (List ℕ) → Start → Type 0) (is_known : List ℕ → Bool) (text states : List ℕ) (streams : List ConfStream) (starts : List Start) → BeginsAs Starts is_known text states (Ok (streams, starts)) → length starts ≡ length streams
+each_starts Starts is_known text states streams starts is = reading_start Starts is_known states streams starts is.0 is.2

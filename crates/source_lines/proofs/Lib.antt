@@ -5,3 +5,5 @@ mod LineLemmas
 mod GivingLemmas
 mod ResumeLemmas
 mod BeginLemmas
+mod RoundLemmas
+mod FeedLemmas

@@ -83,6 +83,13 @@ BeginsAs Starts is_known text states answer =
     (reading : Result (List ConfStream) CatalogFault) × ReadsAs text reading
     × MatchResult reading (λ streams. BeginsKnown (first_unknown is_known 0 streams) (BeginsStates Starts states streams) answer) (λ fault. answer ≡ Err (catalog_status fault))
 
+-- a status that tells of a text, or of want of memory
+abbrev pub is_of_text : Status → Bool
+is_of_text (status.BadCatalog fault) = true
+is_of_text (status.BadState fault) = true
+is_of_text status.NoMemory = true
+is_of_text other = false
+
 -- For private clauses: what a state says of each stream, of which these were known.
 abbrev pub told_blobs : StateKind → List ConfStream → List (Option (List ℕ)) → List (Option (List ℕ))
 told_blobs kind [] blobs = blobs

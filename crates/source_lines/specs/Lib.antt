@@ -6,3 +6,4 @@ pub mod Laws
 pub mod Heads
 pub mod Begins
 pub mod Sources
+pub mod SourceFeeds

@@ -1,12 +1,12 @@
 -- What a source of streams tells, and the lines that it has for streams which start at certain places.
-use Rattle.std.specs.Prelude.{◌≡◌, ◌≢◌, ◌⊎◌, ℕ, ◌+◌, List, [], ◌∷◌, ◌++◌, drop, Bool, Option, None, Some, IfSome, option_map, Result, Ok, Err}
+use Rattle.std.specs.Prelude.{◌≡◌, ◌≢◌, ◌⊎◌, ℕ, ◌+◌, List, [], ◌∷◌, ◌++◌, drop, slice_get, Bool, Option, None, Some, IfSome, option_map, Result, Ok, Err}
 use Rattle.basics.specs.declared.stream.StreamId.{StreamId}
 use Rattle.outside.specs.declared.status.Status.{Status}
 use Rattle.outside.specs.declared.status.Status.TheVariants as status
-use Rattle.outside.specs.Feed.{FeedSeen, Left, nothing_left}
+use Rattle.outside.specs.Feed.{FeedSeen, IsOver, Left, before_line, nothing_left}
 use Rattle.catalog.specs.declared.stream.ConfStream.{ConfStream}
 use Rattle.source_lines.specs.Checkpoints.{Row}
-use Rattle.source_lines.specs.Streams.{Form, left_of, stream_lines}
+use Rattle.source_lines.specs.Streams.{left_of, stream_lines}
 
 -- the rows of a stream that are to come, the blob that it starts with, and after how many records a state is due
 pub record Listed : Type 0 where
@@ -58,3 +58,47 @@ abbrev pub left_behind : {Start : Type 0} → List (List ℕ) → ℕ → ℕ �
 left_behind lines moment number streams starts openings =
     let others = left_of (lines_from openings moment number (drop number streams) (drop number starts)) in
     record others { lines = lines ++ others.lines }
+
+-- What contracts see of a feed that was begun: the lines of the stream whose turn it is that are to come, the number of the
+-- next stream, and all streams, with where each starts.
+pub record Round (Start : Type 0) : Type 0 where
+  pub lines : List (List ℕ)
+  pub next : ℕ
+  pub streams : List ConfStream
+  pub starts : List Start
+
+-- what is left of it
+abbrev pub round_left : {Start : Type 0} → ℕ → Round Start → Openings Start → Left
+round_left moment round openings = left_behind round.lines moment round.next round.streams round.starts openings
+
+-- a feed that goes on so, over this source
+abbrev pub goes_on : {Start : Type 0} → ℕ → SourceSeen Start → Round Start → FeedSeen
+goes_on moment source round = record { left = option_map (round_left moment round) source.openings; ended = None; faults = source.faults }
+
+-- a feed that ended so
+abbrev pub is_over : {Start : Type 0} → SourceSeen Start → Status → FeedSeen
+is_over source why = record { left = option_map (λ _. nothing_left why) source.openings; ended = Some why; faults = source.faults }
+
+-- For private clauses: what an answer does to a feed that went on, but for that it has ended then.
+abbrev pub GoesOn : Result (Option (List ℕ)) Status → FeedSeen → FeedSeen → Type 0
+GoesOn (Ok (Some line)) old new = old ≡ before_line line new
+GoesOn (Ok None) old new = IsOver status.Ok old
+GoesOn (Err why) old new = (why ≢ status.Ok) × (why ≡ status.NoMemory → new ≡ old) × ((why ≡ status.NoMemory) ⊎ (why ≡ status.RowFault) ⊎ IsOver why old)
+
+-- For private clauses: the next stream of a round, which is the one that starts there, has these lines.
+pub record Opens {Start : Type 0} (moment : ℕ) (source : SourceSeen Start) (old new : Round Start) : Type 0 where
+  pub stream : ConfStream
+  pub start : Start
+  pub listed : Listed
+  pub at : slice_get old.streams old.next ≡ Some stream
+  pub from : slice_get old.starts old.next ≡ Some start
+  pub told : IfSome (opening_of source old.next stream start) (λ opening. opening ≡ Ok listed)
+  pub is : new ≡ record old { lines = listed_lines moment stream.id listed; next = old.next + 1 }
+
+-- For private clauses: it is not opened.
+pub record OpensNotNext {Start : Type 0} (why : Status) (source : SourceSeen Start) (old : Round Start) : Type 0 where
+  pub stream : ConfStream
+  pub start : Start
+  pub at : slice_get old.streams old.next ≡ Some stream
+  pub from : slice_get old.starts old.next ≡ Some start
+  pub told : OpensNot why (opening_of source old.next stream start)

@@ -1,10 +1,10 @@
 // The checks of the texts that a source is begun with.
-ghost use Rattle.std.specs.Prelude.{◌≡◌, ◌≢◌, ℕ, List, None, map, Ok, Err, length, IfOk, IfErr, OnOk};
+ghost use Rattle.std.specs.Prelude.{◌≡◌, ◌≢◌, ℕ, List, None, true, map, Ok, Err, length, IfOk, IfErr, OnOk};
 ghost use Rattle.json_fields.specs.Answer.{IsAnswer, IsOnly};
 ghost use Rattle.outside.specs.declared.status.Status.TheVariants as status;
 ghost use Rattle.state_kinds.specs.Store.{is_global_kind};
 ghost use Rattle.state_kinds.specs.StateLists.{has_kind};
-ghost use Rattle.source_lines.specs.Begins.{AreStarts, BeginsAs, blob_in, first_unknown, knows_stream, no_blobs as blobs_of_none, told_blobs};
+ghost use Rattle.source_lines.specs.Begins.{AreStarts, BeginsAs, blob_in, first_unknown, is_of_text, knows_stream, no_blobs as blobs_of_none, told_blobs};
 
 use crate::StreamSource;
 use airbyte_message::{StateKind, StateMsg};
@@ -126,6 +126,7 @@ pub fn begin_checks<S: StreamSource>(
 ) -> Result<(Configured, Sequence<S::Start>), Status>
     ensures read { IfOk result (λ begun. IsOnly (BeginsAs S.Starts (S.seen source.now).is_known catalog.now states.now) (Ok (begun.0, begun.1))) }
     ensures refused { IfErr result (λ why. why ≢ status.NoMemory → IsOnly (BeginsAs S.Starts (S.seen source.now).is_known catalog.now states.now) (Err why)) }
+    ensures of_text { IfErr result (λ why. is_of_text why ≡ true) }
 {
     let streams = read_configured(alloc, catalog)?;
     if let Some(stream) = unknown_stream(source, &streams) {

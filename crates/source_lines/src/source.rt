@@ -1,5 +1,5 @@
 // The streams of a source, and the rows of each.
-ghost use Rattle.std.specs.Prelude.{◌≡◌, ℕ, List, Option, None, Ok, Err, IfOk, IfErr, IfSome};
+ghost use Rattle.std.specs.Prelude.{◌≡◌, ◌⊎◌, ℕ, List, Option, Ok, Err, IfOk, IfErr, IfSome};
 ghost use Rattle.basics.specs.Told.{RoseIf};
 ghost use Rattle.json_fields.specs.Answer.{IsAnswer};
 ghost use Rattle.outside.specs.declared.status.Status.TheVariants as status;
@@ -53,7 +53,7 @@ pub trait StreamSource {
 
     /// Makes the source ready to open streams. It comes behind all checks of the texts that a feed is begun with.
     fn make_ready(&mut self, alloc: Global) -> Result<(), Status>
-        ensures refused { IfErr result (λ why. OpensNot why None) }
+        ensures refused { IfErr result (λ why. (why ≡ status.NoMemory) ⊎ (why ≡ status.RowFault)) }
         ensures faults { RoseIf (result ≡ Err status.RowFault) (seen self.old).faults (seen self.new).faults }
         ensures stays { ¬ (result ≡ Err status.RowFault) → (seen self.new).faults ≡ (seen self.old).faults }
         ensures others { seen self.new ≡ record (seen self.old) { faults = (seen self.new).faults } };

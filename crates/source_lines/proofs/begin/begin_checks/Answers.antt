@@ -1,6 +1,5 @@
-use Rattle.std.proofs.Common.{◌≡◌, ◌≢◌, List, Option, None, Some, Ok, Err, IfErr, Bool, true, false, refl, sym, ◌∙◌, ap, subst}
+use Rattle.std.proofs.Common.{List, Ok, Err, refl, sym, ◌∙◌, ap, subst}
 use Rattle.outside.specs.Status.{catalog_status, state_status}
-use Rattle.outside.specs.declared.status.Status.{Status}
 use Rattle.outside.specs.declared.status.Status.TheVariants as status
 use Rattle.json_fields.specs.Answer.{IsOnly}
 use Rattle.json_fields.proofs.AnswerLemmas.{along}

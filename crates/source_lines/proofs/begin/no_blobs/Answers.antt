@@ -1,4 +1,4 @@
-use Rattle.std.proofs.Common.{◌≡◌, List, ℕ, [], ◌∷◌, ◌++◌, Option, None, sym, ◌∙◌, ap}
+use Rattle.std.proofs.Common.{List, ℕ, [], ◌∷◌, ◌++◌, Option, None, ◌∙◌, ap}
 use Rattle.source_lines.proofs.BeginLemmas.{none_behind}
 use Rattle.source_lines.proofs.begin.no_blobs.Goals as goal
 

@@ -1,4 +1,4 @@
-use Rattle.std.proofs.Common.{◌≡◌, List, ℕ, Option, Some, sym, ◌∙◌, ap, length, slice_set}
+use Rattle.std.proofs.Common.{◌≡◌, List, ℕ, Option, sym, ◌∙◌, ap, length, slice_set}
 use Rattle.airbyte_message.specs.declared.message.StateKind.{StateKind}
 use Rattle.source_lines.specs.Begins.{told_blobs}
 use Rattle.source_lines.proofs.BeginLemmas.{place_within, told_absent, told_none, told_set}

@@ -1,6 +1,6 @@
-use Rattle.std.proofs.Common.{arith, ◌≡◌, List, ℕ, ◌<◌, ◌≤◌, Option, Some, sym, ◌∙◌, ap, subst, take, length, slice_index_or}
+use Rattle.std.proofs.Common.{arith, List, ℕ, ◌<◌, ◌≤◌, Option, sym, subst, length}
 use Rattle.std.proofs.lemmas.Option.{get_or_from_slice_get}
-use Rattle.json_fields.specs.Answer.{IsOnly, IsAnswer}
+use Rattle.json_fields.specs.Answer.{IsOnly}
 use Rattle.json_fields.proofs.AnswerLemmas.{along}
 use Rattle.catalog.proofs.ListLemmas.{loop_all, loop_more, loop_none}
 use Rattle.catalog.specs.declared.stream.ConfStream.{ConfStream}

@@ -1,4 +1,4 @@
-use Rattle.std.proofs.Common.{◌≡◌, true, false, sym, ◌∙◌}
+use Rattle.std.proofs.Common.{true, false, sym, ◌∙◌}
 use Rattle.source_lines.proofs.BeginLemmas.{unknown_at}
 use Rattle.source_lines.proofs.begin.unknown_stream.Goals as goal
 
