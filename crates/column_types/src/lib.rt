@@ -14,4 +14,4 @@ pub use column::{Column, Columns};
 pub use columns::{columns_of, is_instant};
 pub use kind::ColumnType;
 pub use typed::{Typed, Way, type_value, way_of};
-pub use value::{value_along, value_in, value_of};
+pub use value::{text_along, value_along, value_in, value_of};

@@ -64,14 +64,18 @@ pub fn value_along(
     requires { IsValue text.now }
     ensures { IfOk result (IsValueAlong text.now names.now is_instant) }
 {
-    match walk(alloc, text, names)? {
+    match text_along(alloc, text, names)? {
         Some(held) => text_value(alloc, held, is_instant),
         None => Ok(Value::Null),
     }
 }
 
-// What stands at the end of a path from a value on.
-fn walk<'a>(alloc: Global, text: &'a [u8], names: &[Name]) -> Result<Option<&'a [u8]>, NoMemory>
+/// What stands at the end of a path from a value on.
+pub fn text_along<'a>(
+    alloc: Global,
+    text: &'a [u8],
+    names: &[Name],
+) -> Result<Option<&'a [u8]>, NoMemory>
     requires { IsValue text.now }
     ensures reached { IfOk result (λ found. Reaches text.now names.now (option_copied found)) }
     ensures value { IfOk result (λ found. IfSome found (λ held. IsValue held.now)) }

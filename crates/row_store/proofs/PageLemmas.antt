@@ -100,25 +100,25 @@ next_page rows before after count rising =
 all_behind_zero : (rows : List NumberedRow) → AreRising rows 0 → rows ≡ rows_after 0 rows
 all_behind_zero rows rising = sym (all_after rows 0 0 rising (omega arith))
 
-pub begins : (told : Option RowsByTable) (table : List ℕ) → IfSome told (λ by_table. (name : List ℕ) → AreRising (by_table name) 0) → SoFar told table 0 []
-begins None table order = record { small = omega arith; rising = λ more rise. rise; told_are = tt }
-begins (Some by_table) table order = record { small = omega arith; rising = λ more rise. rise; told_are = all_behind_zero (by_table table) (order table) }
+pub begins : (told : Option RowsByTable) (table : List ℕ) → SoFar told table 0 []
+begins None table = record { small = omega arith; rising = λ more rise. rise; told_are = tt }
+begins (Some by_table) table = record { small = omega arith; rising = λ more rise. rise; told_are = all_behind_zero (by_table table) }
 
 last_small : (rows : List NumberedRow) (before : ℕ) → before < 2 ^ 63 → AreRising rows before → last_id_of rows before < 2 ^ 63
 last_small [] before small rising = small
 last_small (row ∷ rows) before small rising = last_small rows row.id rising.small rising.others
 
-told_on : (told : Option RowsByTable) (table : List ℕ) (after most : ℕ) (rows page : List NumberedRow) → IfSome told (λ by_table. (name : List ℕ) → AreRising (by_table name) 0) → IfSome told (λ by_table. by_table table ≡ rows ++ rows_after after (by_table table)) → IfSome told (λ by_table. page ≡ take most (rows_after after (by_table table))) → IfSome told (λ by_table. by_table table ≡ (rows ++ page) ++ rows_after (last_id_of page after) (by_table table))
-told_on None table after most rows page order before first = tt
-told_on (Some by_table) table after most rows page order before first =
-    let next : rows_after after (by_table table) ≡ page ++ rows_after (last_id_of page after) (by_table table) = subst (λ (found : List NumberedRow). rows_after after (by_table table) ≡ found ++ rows_after (last_id_of found after) (by_table table)) (sym first) (next_page (by_table table) 0 after most (order table)) in
-    before ∙ (ap (λ (found : List NumberedRow). rows ++ found) next ∙ sym (append_assoc rows page (rows_after (last_id_of page after) (by_table table))))
+told_on : (told : Option RowsByTable) (table : List ℕ) (after most : ℕ) (rows page : List NumberedRow) → IfSome told (λ by_table. AreRising (by_table table) 0 → by_table table ≡ rows ++ rows_after after (by_table table)) → IfSome told (λ by_table. page ≡ take most (rows_after after (by_table table))) → IfSome told (λ by_table. AreRising (by_table table) 0 → by_table table ≡ (rows ++ page) ++ rows_after (last_id_of page after) (by_table table))
+told_on None table after most rows page before first = tt
+told_on (Some by_table) table after most rows page before first = λ order.
+    let next : rows_after after (by_table table) ≡ page ++ rows_after (last_id_of page after) (by_table table) = subst (λ (found : List NumberedRow). rows_after after (by_table table) ≡ found ++ rows_after (last_id_of found after) (by_table table)) (sym first) (next_page (by_table table) 0 after most order) in
+    before order ∙ (ap (λ (found : List NumberedRow). rows ++ found) next ∙ sym (append_assoc rows page (rows_after (last_id_of page after) (by_table table))))
 
-pub goes_on : (told : Option RowsByTable) (table : List ℕ) (after most : ℕ) (rows page : List NumberedRow) → IfSome told (λ by_table. (name : List ℕ) → AreRising (by_table name) 0) → SoFar told table after rows → AreRising page after → IfSome told (λ by_table. page ≡ take most (rows_after after (by_table table))) → SoFar told table (last_id_of page after) (rows ++ page)
-goes_on told table after most rows page order so_far rises first = record {
+pub goes_on : (told : Option RowsByTable) (table : List ℕ) (after most : ℕ) (rows page : List NumberedRow) → SoFar told table after rows → AreRising page after → IfSome told (λ by_table. page ≡ take most (rows_after after (by_table table))) → SoFar told table (last_id_of page after) (rows ++ page)
+goes_on told table after most rows page so_far rises first = record {
   small = last_small page after so_far.small rises;
   rising = λ more others. subst (λ (found : List NumberedRow). AreRising found 0) (sym (append_assoc rows page more)) (so_far.rising (page ++ more) (behind page more after rises others));
-  told_are = told_on told table after most rows page order so_far.told_are first;
+  told_are = told_on told table after most rows page so_far.told_are first;
 }
 
 none_left : (most : ℕ) (rows : List NumberedRow) → 0 < most → [] ≡ take most rows → rows ≡ []
@@ -129,9 +129,9 @@ none_left (suc most) (row ∷ rows) some none = absurd (omega (arith, ap length 
 pub ends_rising : (told : Option RowsByTable) (table : List ℕ) (after : ℕ) (rows : List NumberedRow) → SoFar told table after rows → AreRising rows 0
 ends_rising told table after rows so_far = subst (λ (found : List NumberedRow). AreRising found 0) (append-nil rows) (so_far.rising [] tt)
 
-pub ends_told : (told : Option RowsByTable) (table : List ℕ) (after most : ℕ) (rows page : List NumberedRow) → SoFar told table after rows → 0 < most → page ≡ [] → IfSome told (λ by_table. page ≡ take most (rows_after after (by_table table))) → IfSome told (λ by_table. rows ≡ by_table table)
-ends_told None table after most rows page so_far some none first = tt
-ends_told (Some by_table) table after most rows page so_far some none first = sym (so_far.told_are ∙ (ap (λ (found : List NumberedRow). rows ++ found) (none_left most (rows_after after (by_table table)) some (sym none ∙ first)) ∙ append-nil rows))
+pub ends_told : (told : Option RowsByTable) (table : List ℕ) (after most : ℕ) (rows page : List NumberedRow) → IfSome told (λ by_table. (name : List ℕ) → AreRising (by_table name) 0) → SoFar told table after rows → 0 < most → page ≡ [] → IfSome told (λ by_table. page ≡ take most (rows_after after (by_table table))) → IfSome told (λ by_table. rows ≡ by_table table)
+ends_told None table after most rows page order so_far some none first = tt
+ends_told (Some by_table) table after most rows page order so_far some none first = sym (so_far.told_are (order table) ∙ (ap (λ (found : List NumberedRow). rows ++ found) (none_left most (rows_after after (by_table table)) some (sym none ∙ first)) ∙ append-nil rows))
 
 -- a measure: each page that is not empty has a later last id
 pub goes_up : (page : List NumberedRow) (after : ℕ) → ¬ (page ≡ []) → AreRising page after → after < last_id_of page after
@@ -139,10 +139,10 @@ goes_up [] after some rises = absurd (some refl)
 goes_up (row ∷ page) after some rises = omega (arith, rises.above, last_above page row.id rises.others)
 
 -- a page that is not empty goes behind the rows so far
-pub adds : (told : Option RowsByTable) (table : List ℕ) (after most last : ℕ) (before page now : List NumberedRow) → IfSome told (λ by_table. (name : List ℕ) → AreRising (by_table name) 0) → SoFar told table after before → ¬ (page ≡ []) → AreRising page after → IfSome told (λ by_table. page ≡ take most (rows_after after (by_table table))) → last ≡ last_id_of page after → now ≡ before ++ page → after < last × SoFar told table last now
-adds told table after most last before page now order so_far some rises first last_is now_is =
+pub adds : (told : Option RowsByTable) (table : List ℕ) (after most last : ℕ) (before page now : List NumberedRow) → SoFar told table after before → ¬ (page ≡ []) → AreRising page after → IfSome told (λ by_table. page ≡ take most (rows_after after (by_table table))) → last ≡ last_id_of page after → now ≡ before ++ page → after < last × SoFar told table last now
+adds told table after most last before page now so_far some rises first last_is now_is =
     let up : after < last = omega (arith, last_is, goes_up page after some rises) in
-    let all = goes_on told table after most before page order so_far rises first in
+    let all = goes_on told table after most before page so_far rises first in
     let whole : SoFar told table last (before ++ page) = subst (λ (id : ℕ). SoFar told table id (before ++ page)) (sym last_is) all in
     (up, subst (λ (rows : List NumberedRow). SoFar told table last rows) (sym now_is) whole)
 

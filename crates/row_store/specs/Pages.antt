@@ -12,11 +12,11 @@ abbrev pub last_id_of : List NumberedRow → ℕ → ℕ
 last_id_of [] before = before
 last_id_of (row ∷ rows) before = last_id_of rows row.id
 
--- for private clauses: the rows so far are those up to this id
+-- for private clauses: the rows so far are those up to this id, where the store tells rows in order
 pub record SoFar (told : Option RowsByTable) (table : List ℕ) (after : ℕ) (rows : List NumberedRow) : Type 0 where
   pub small : after < 2 ^ 63
   pub rising : (more : List NumberedRow) → AreRising more after → AreRising (rows ++ more) 0
-  pub told_are : IfSome told (λ by_table. by_table table ≡ rows ++ rows_after after (by_table table))
+  pub told_are : IfSome told (λ by_table. AreRising (by_table table) 0 → by_table table ≡ rows ++ rows_after after (by_table table))
 
 -- a page was put behind the rows so far, and this is its last id; or none was left
 abbrev pub AddsPage : Option RowsByTable → List ℕ → ℕ → List NumberedRow → List NumberedRow → Option ℕ → Type 0

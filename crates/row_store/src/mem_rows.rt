@@ -19,14 +19,16 @@ pub struct TableRow {
 /// Rows of tables, those of each table in order of their ids.
 pub type TableRowList = Sequence<TableRow>;
 
-/// A store that keeps its rows and tells them. Whatever name it is opened by, they are the same. Of its calls, counted
-/// from 1, those whose numbers it was given fail.
+/// A store that keeps its rows and tells them. Whatever name it is opened by, they are the same; the last one is kept.
+/// Of its calls, counted from 1, those whose numbers it was given fail.
 #[derive(Drop)]
 pub struct MemRows {
+    alloc: Global,
     entries: TableRowList,
     calls: CallCount,
     faults: u64,
     opens: u64,
+    opened: Option<Name>,
     // Where the last row stood that a page gave.
     given: usize,
 }
@@ -36,7 +38,7 @@ impl Model for MemRows {
 
     ghost Value = { RowsState };
 
-    ghost view = { λ store. record { entries = store.entries; calls = store.calls; faults = store.faults; opens = store.opens } };
+    ghost view = { λ store. record { entries = store.entries; calls = store.calls; faults = store.faults; opens = store.opens; opened = store.opened } };
 
     ghost invariant = { λ store. AreTables store.entries };
 }
@@ -46,15 +48,17 @@ impl MemRows {
     ghost use Rattle.row_store.specs.MemRows.{AreTables, unopened};
 
     /// A store of these rows, which was not opened yet.
-    pub fn new(entries: TableRowList, fails: FailList) -> Self
+    pub fn new(alloc: Global, entries: TableRowList, fails: FailList) -> Self
         requires { AreTables entries }
         ensures { result ≡ unopened entries fails }
     {
         MemRows {
+            alloc,
             entries,
             calls: CallCount::new(fails),
             faults: 0,
             opens: 0,
+            opened: None,
             given: 0,
         }
     }
@@ -117,24 +121,25 @@ impl RowStore for MemRows {
     ghost use Rattle.outside.specs.Rows.{AreInOrder, IsPage, IsFirstAfter};
     ghost use Rattle.outside_mem.specs.Calls.{call_made, next_call};
     ghost use Rattle.outside_mem.specs.MemDesk.{fault_after};
-    ghost use Rattle.row_store.specs.MemRows.{seen_of, opens_after};
+    ghost use Rattle.row_store.specs.MemRows.{seen_of, opened_after, opens_after};
 
     ghost seen = { seen_of };
 
-    // `Failed` comes exactly where the call is to fail.
-    fn open_rows(&mut self, _name: &str) -> Result<(), Fault>
+    // `Failed` comes exactly where the call is to fail. At `Ok` the name is kept.
+    fn open_rows(&mut self, name: &str) -> Result<(), Fault>
         ensures order { AreInOrder (seen_of self.new) }
         ensures faults { RoseIf (IsErrOf result Fault.Failed) self.old.faults self.new.faults }
         ensures stays { StaysUnlessFailed result self.old.faults self.new.faults }
         ensures opens { OpensCount result self.old.opens self.new.opens }
         ensures others { seen_of self.new ≡ record (seen_of self.old) { faults = self.new.faults; opens = self.new.opens } }
         ensures failed { IsErrOf result Fault.Failed ↔ Contains self.old.calls.fails (next_call self.old.calls) }
-        ensures counted { self.new ≡ record (self.old) { calls = call_made self.old.calls; faults = fault_after result self.old.faults; opens = opens_after result self.old.opens } }
+        ensures counted { self.new ≡ record (self.old) { calls = call_made self.old.calls; faults = fault_after result self.old.faults; opens = opens_after result self.old.opens; opened = opened_after result name.now self.old.opened } }
     {
         if self.calls.is_failing() {
             self.faults = self.faults.saturating_add(1);
             return Err(Fault::Failed);
         }
+        self.opened = Some(Name::copy_of(self.alloc, name)?);
         self.opens = self.opens.saturating_add(1);
         Ok(())
     }

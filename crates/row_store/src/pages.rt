@@ -18,7 +18,6 @@ pub fn all_rows<R: RowStore>(
     store: &mut R,
     table: &str,
 ) -> Result<NumberedRowList, Fault>
-    requires { AreInOrder (R.seen store.old) }
     ensures rising { IfOk result (λ rows. AreRising rows 0) }
     ensures rows { IfOk result (AreOfTable (R.seen store.old) table.now) }
     ensures order { AreInOrder (R.seen store.new) }
@@ -43,8 +42,7 @@ fn add_page<R: RowStore>(
     after: u64,
     rows: &mut NumberedRowList,
 ) -> Result<Option<u64>, Fault>
-    requires order { AreInOrder (R.seen store.old) }
-    requires so_far { SoFar (R.seen store.old).rows table.now after rows.old }
+    requires { SoFar (R.seen store.old).rows table.now after rows.old }
     ensures more { IfOk result (AddsPage (R.seen store.old).rows table.now after rows.old rows.new) }
     ensures order { AreInOrder (R.seen store.new) }
     ensures faults { RoseIf (IsErrOf result Fault.Failed) (R.seen store.old).faults (R.seen store.new).faults }

@@ -1,7 +1,7 @@
 -- A list cut at its states.
-use Rattle.std.proofs.Common.{inl, inr, ◌≡◌, ◌≢◌, ◌∙◌, ℕ, List, [], ◌∷◌, ◌++◌, true, false, refl, sym, ap, append_assoc}
-use Rattle.std.proofs.lemmas.Bool.{cases_Bool}
-use Rattle.source_lines.specs.Checkpoints.{Row, is_due, last_stretch, cut_behind, stretches, rows_in, CutsAnew}
+use Rattle.std.proofs.Common.{inl, inr, ◌≡◌, ◌≢◌, ◌∙◌, ℕ, List, [], ◌∷◌, ◌++◌, true, false, refl, sym, ap, append_assoc, append-nil, arith}
+use Rattle.std.proofs.lemmas.Bool.{cases_Bool, false≢true}
+use Rattle.source_lines.specs.Checkpoints.{Row, closes_last, is_due, last_stretch, cut_behind, stretches, rows_in, CutsAnew}
 
 Stretches : Type 0
 Stretches = List (List Row)
@@ -36,7 +36,7 @@ in_stretches : (every : ℕ) (rows : List Row) → rows_in (stretches every rows
 in_stretches every [] = refl
 in_stretches every (row ∷ rows) = in_cut every [] (row ∷ rows)
 
-first_or : List Row → List (List Row) → List Row
+abbrev first_or : List Row → List (List Row) → List Row
 first_or none [] = none
 first_or none (stretch ∷ others) = stretch
 
@@ -89,8 +89,53 @@ rest_of every [] (first ∷ gone) left is some more = absurd (more (nothing_behi
 rest_of every (row ∷ rows) (first ∷ gone) left is some more =
     as_cut every (rows_in left) left (again every [] (row ∷ rows) first gone left is) more
 
+closes_behind : (front rows : List Row) → closes_last rows ≡ true → closes_last (front ++ rows) ≡ true
+closes_behind [] rows closes = closes
+closes_behind (first ∷ []) [] closes = absurd (false≢true closes)
+closes_behind (first ∷ []) (row ∷ rows) closes = closes
+closes_behind (first ∷ second ∷ front) rows closes = closes_behind (second ∷ front) rows closes
+
+closes_due : (every : ℕ) (rows : List Row) → is_due every rows ≡ true → closes_last rows ≡ true
+closes_due every rows due = grind arith
+
+some_behind : (gone left : List (List Row)) → gone ≢ [] → [] ≡ gone ++ left → ⊥
+some_behind [] left some is = some refl
+some_behind (first ∷ gone) left some is = subst_any [] (first ∷ (gone ++ left)) is tt
+
+one_cut : (front : List Row) (gone left : List (List Row)) → last_stretch front ≡ gone ++ left → gone ≢ [] → left ≢ [] → ⊥
+one_cut [] gone left is some more = some_behind gone left some is
+one_cut (row ∷ rows) [] left is some more = some refl
+one_cut (row ∷ rows) (first ∷ gone) left is some more = more (nothing_behind gone left (ap behind_first is))
+
+-- where rows follow, the row before a state closes
+closes_cut : (every : ℕ) (front rows : List Row) (gone left : List (List Row)) → cut_behind every front rows ≡ gone ++ left → gone ≢ [] → left ≢ []
+    → closes_last (rows_in gone) ≡ true
+closes_cut every front [] gone left is some more = absurd (one_cut front gone left is some more)
+closes_cut every front (row ∷ rows) [] left is some more = absurd (some refl)
+closes_cut every front (row ∷ rows) (first ∷ []) left is some more =
+    elim (cases_Bool (is_due every (front ++ row ∷ []))) [
+      | inl due ↦
+          let first_is : front ++ row ∷ [] ≡ first = ap (first_or []) (sym (cut_true every front row rows due) ∙ is) in
+          ap closes_last (append-nil first) ∙ ap closes_last (sym first_is) ∙ closes_due every (front ++ row ∷ []) due
+      | inr not ↦ closes_cut every (front ++ row ∷ []) rows (first ∷ []) left (sym (cut_false every front row rows not) ∙ is) some more
+    ]
+closes_cut every front (row ∷ rows) (first ∷ second ∷ gone) left is some more =
+    elim (cases_Bool (is_due every (front ++ row ∷ []))) [
+      | inl due ↦
+          let tail : cut_behind every [] rows ≡ second ∷ (gone ++ left) = ap behind_first (sym (cut_true every front row rows due) ∙ is) in
+          closes_behind first (rows_in (second ∷ gone)) (closes_cut every [] rows (second ∷ gone) left tail (λ none. subst_any [] (second ∷ gone) (sym none) tt) more)
+      | inr not ↦ closes_cut every (front ++ row ∷ []) rows (first ∷ second ∷ gone) left (sym (cut_false every front row rows not) ∙ is) some more
+    ]
+
+closes_of : (every : ℕ) (rows : List Row) (gone left : List (List Row)) → stretches every rows ≡ gone ++ left → gone ≢ [] → left ≢ []
+    → closes_last (rows_in gone) ≡ true
+closes_of every [] [] left is some more = absurd (some refl)
+closes_of every [] (first ∷ gone) left is some more = absurd (more (nothing_behind gone left (ap behind_first is)))
+closes_of every (row ∷ rows) gone left is some more = closes_cut every [] (row ∷ rows) gone left is some more
+
 pub cuts_alike : CutsAnew
 cuts_alike every rows gone left is some = record {
   whole = sym (in_stretches every rows) ∙ ap rows_in is ∙ rows_in-append gone left;
+  closes = closes_of every rows gone left is some;
   rest = rest_of every rows gone left is some;
 }

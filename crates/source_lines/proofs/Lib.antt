@@ -3,6 +3,7 @@ mod TurnLemmas
 mod HeadLemmas
 mod LineLemmas
 mod GivingLemmas
+mod ResumeLemmas
 mod BeginLemmas
 mod RoundLemmas
 mod FeedLemmas

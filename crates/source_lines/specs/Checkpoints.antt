@@ -1,6 +1,6 @@
 -- Where the states of a list of rows stand: as soon as so many rows stand behind the last one and a state may stand there,
 -- and behind the last row.
-use Rattle.std.specs.Prelude.{◌≡◌, ◌≢◌, ◌&&◌, ℕ, List, [], ◌∷◌, ◌++◌, length, nat_le, Bool, false, if◌then◌else◌}
+use Rattle.std.specs.Prelude.{◌≡◌, ◌≢◌, ◌&&◌, ℕ, List, [], ◌∷◌, ◌++◌, length, nat_le, Bool, true, false, if◌then◌else◌}
 
 -- A row of a source's list: its body, a JSON object; the blob of a state that stands behind it; and whether one may stand
 -- there, before the next row.
@@ -40,9 +40,11 @@ abbrev pub rows_in : List (List Row) → List Row
 rows_in [] = []
 rows_in (stretch ∷ others) = stretch ++ rows_in others
 
--- The law of a resumed list: cut anew, the rows behind a state are cut where the whole list was.
+-- The law of a resumed list: a state before further rows stands behind a row that closes, and cut anew the rows behind it are cut
+-- where the whole list was.
 pub record CutsAlike (every : ℕ) (rows : List Row) (gone left : List (List Row)) : Type 0 where
   pub whole : rows ≡ rows_in gone ++ rows_in left
+  pub closes : left ≢ [] → closes_last (rows_in gone) ≡ true
   pub rest : left ≢ [] → stretches every (rows_in left) ≡ left
 
 abbrev pub CutsAnew : Type 0

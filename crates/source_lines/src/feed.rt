@@ -74,10 +74,10 @@ fn begun<S: StreamSource>(
 }
 
 impl<S: StreamSource + Drop> Feed for SourceFeed<S> {
-    ghost use Rattle.std.specs.Prelude.{◌≡◌, ◌≢◌, None, Ok, Err, IfErr, OnOk, is_some};
+    ghost use Rattle.std.specs.Prelude.{◌≡◌, ◌≢◌, None, Ok, Err, IfErr, IfSome, OnOk, is_some};
     ghost use Rattle.basics.specs.Told.{RoseIf};
     ghost use Rattle.json_fields.specs.Answer.{IsOnly};
-    ghost use Rattle.outside.specs.Feed.{ended_with};
+    ghost use Rattle.outside.specs.Feed.{AnswersAgain, GivesNext, ended_with};
     ghost use Rattle.outside.specs.declared.status.Status.TheVariants as status;
     ghost use Rattle.source_lines.specs.Begins.{BeginsAs};
     ghost use Rattle.source_lines.specs.SourceFeeds.{BeginsWith};
@@ -93,6 +93,7 @@ impl<S: StreamSource + Drop> Feed for SourceFeed<S> {
         ensures stays { ¬ (result ≡ Err status.RowFault) → self.new.feed.faults ≡ self.old.feed.faults }
         ensures begins { OnOk result (BeginsWith S.Starts (S.seen self.old.source) catalog.now states.now self.old.moment self.new.feed.left) }
         ensures by_texts { IfErr result (λ why. why ≢ status.NoMemory → why ≢ status.RowFault → IsOnly (BeginsAs S.Starts (S.seen self.old.source).is_known catalog.now states.now) (Err why)) }
+        ensures source { S.seen self.new.source ≡ record (S.seen self.old.source) { faults = (S.seen self.new.source).faults } }
         ensures moment { self.new.moment ≡ self.old.moment }
     {
         self.progress = Progress::Ended(Status::Ok);
@@ -108,7 +109,12 @@ impl<S: StreamSource + Drop> Feed for SourceFeed<S> {
         }
     }
 
-    fn next_line(&mut self, alloc: Global) -> Result<Option<Bytes>, Status> {
+    fn next_line(&mut self, alloc: Global) -> Result<Option<Bytes>, Status>
+        ensures again { IfSome self.old.feed.ended (λ why. AnswersAgain result why self.old.feed self.new.feed) }
+        ensures next { self.old.feed.ended ≡ None → GivesNext result self.old.feed self.new.feed }
+        ensures source { S.seen self.new.source ≡ record (S.seen self.old.source) { faults = (S.seen self.new.source).faults } }
+        ensures moment { self.new.moment ≡ self.old.moment }
+    {
         let answer = match &mut self.progress {
             Progress::Going(round) => advance(alloc, &mut self.source, self.moment, round),
             Progress::Ended(Status::Ok) => return Ok(None),

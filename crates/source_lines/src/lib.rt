@@ -11,6 +11,6 @@ mod turn;
 
 pub use begin::begin_checks;
 pub use feed::SourceFeed;
-pub use laws::{cuts_anew, lines_by_turns};
+pub use laws::{cuts_anew, lines_by_turns, lines_resume};
 pub use source::{OpenStream, StreamSource};
 pub use turn::{ListedRows, Stage, StreamTurn};

@@ -1,12 +1,10 @@
-use Rattle.std.proofs.Common.{◌≡◌, ◌-◌, ◌^◌, ◌≤◌}
-use Rattle.outside.specs.Rows.{AreInOrder}
+use Rattle.std.proofs.Common.{◌≡◌, ◌-◌, ◌^◌}
 use Rattle.row_store.specs.Pages.{SoFar}
 use Rattle.row_store.proofs.pages.all_rows.Given as goal
 
 abbrev pub invariant-loop-rows : goal.invariant-loop-rows
 invariant-loop-rows g l = record {
   so_far : SoFar (g.R.RowStore.seen l.fn.store).rows l.table l.after l.rows;
-  order : AreInOrder (g.R.RowStore.seen l.store);
   stays : (g.R.RowStore.seen l.store).faults ≡ (g.R.RowStore.seen l.fn.store).faults;
   others : g.R.RowStore.seen l.store ≡ record (g.R.RowStore.seen l.fn.store) { faults = (g.R.RowStore.seen l.store).faults };
 }

@@ -1,5 +1,5 @@
 use Rattle.column_types.proofs.ValueLemmas.{walk_on, walk_ends, walk_done}
-use Rattle.column_types.proofs.value.walk.Goals as goal
+use Rattle.column_types.proofs.value.text_along.Goals as goal
 
 pub loop-name-preserved : goal.loop-name-preserved
 loop-name-preserved c =

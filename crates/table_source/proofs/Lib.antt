@@ -1,0 +1,5 @@
+mod CompareLemmas
+mod KeyLemmas
+mod ListLemmas
+mod RowLemmas
+mod SaidLemmas
