@@ -77,6 +77,7 @@ impl Feed for MessageFeed {
         ensures begins { OnOk result (IsSomeAnd self.new.seen.left (Begins self.old.text states.now)) }
         ensures refuses { IfErr result (Refuses self.old.text states.now) }
         ensures text { self.new.text ≡ self.old.text }
+        ensures no_faults { self.new.seen.faults ≡ 0 }
     {
         match restart(alloc, &mut self.lines, states) {
             Ok(()) => {
@@ -95,6 +96,7 @@ impl Feed for MessageFeed {
         ensures again { IfSome self.old.seen.ended (λ why. AnswersAgain result why self.old.seen self.new.seen) }
         ensures next { self.old.seen.ended ≡ None → GivesNext result self.old.seen self.new.seen }
         ensures text { self.new.text ≡ self.old.text }
+        ensures no_faults { self.new.seen.faults ≡ 0 }
     {
         match self.ended {
             Some(Status::Ok) => Ok(None),

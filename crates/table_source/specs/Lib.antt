@@ -2,8 +2,4 @@ pub mod Keyed
 pub mod Total
 pub mod Blob
 pub mod Table
-pub mod Config
 pub mod Discovered
-pub mod Opened
-pub mod Answers
-pub mod Laws
