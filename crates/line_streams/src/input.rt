@@ -23,7 +23,7 @@ pub struct InputLines<I: Source + Drop> {
 }
 
 impl<I: Source + Drop> Model for InputLines<I> {
-    ghost use Rattle.std.specs.Prelude.{◌≡◌, ◌≤◌, ◌×◌, [], take, IsTrue, IfSome};
+    ghost use Rattle.std.specs.Prelude.{◌≡◌, ◌≤◌, [], take, IsTrue, IfSome};
     ghost use Rattle.std.specs.Vec.{vec_len};
     ghost use Rattle.basics.specs.declared.limits.TheConstants.{LONGEST_LINE};
     ghost use Rattle.line_streams.specs.Input.{Input};
@@ -69,6 +69,7 @@ impl<I: Source + Drop> InputLines<I> {
     }
 
     // The next line of what was read.
+    #[tactic(auto, using(crate::proofs::InputLemmas::line_within))]
     fn ready(&mut self) -> Polled
         ensures order { GivesInOrder result (to_come self.old) (to_come self.new) }
         ensures within { IsWithinLimit result }

@@ -24,6 +24,7 @@ impl<W: Sink + Drop> Model for OutputLines<W> {
     ghost view = { λ output. record { bytes = W.bytes output.sink; is_broken = output.is_broken } };
 }
 
+#[tactic(auto, using(crate::proofs::OutputLemmas::taken_none, crate::proofs::OutputLemmas::taken_more, crate::proofs::OutputLemmas::taken_front, crate::proofs::OutputLemmas::taken_all))]
 // Writes a text. Want of memory is answered only where nothing was written.
 fn write_through<W: Sink>(sink: &mut W, text: &[u8]) -> Result<(), Fault>
     ensures ok { OnOk result (W.bytes sink.new ≡ told_more text.now (W.bytes sink.old)) }
@@ -32,8 +33,8 @@ fn write_through<W: Sink>(sink: &mut W, text: &[u8]) -> Result<(), Fault>
 {
     let mut at = 0;
     while at < text.len() {
-        let piece = &text[at..];
-        match sink.write(&piece[..piece.len().min(MOST)]) {
+        let end = text.len().min(at.saturating_add(MOST));
+        match sink.write(&text[at..end]) {
             Ok(0) => return Err(Fault::Failed),
             Ok(count) => at += count as usize,
             Err(Fault::NoMemory) if at == 0 => return Err(Fault::NoMemory),
@@ -44,7 +45,7 @@ fn write_through<W: Sink>(sink: &mut W, text: &[u8]) -> Result<(), Fault>
 }
 
 impl<W: Sink + Drop> OutputLines<W> {
-    ghost use Rattle.std.specs.Prelude.{◌≡◌, ◌×◌, true, false, IsTrue, IfOk, OnOk, IsErrOf};
+    ghost use Rattle.std.specs.Prelude.{◌≡◌, true, false, IsTrue, IfOk, OnOk, IsErrOf};
     ghost use Rattle.basics.specs.Told.{told_more, GrewByFront};
     ghost use Rattle.line_streams.specs.Output.{with_newline};
 

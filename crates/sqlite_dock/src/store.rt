@@ -1,5 +1,5 @@
 // The calls on an opened store, each with what holds of its answer whatever the store is.
-ghost use Rattle.std.specs.Prelude.{◌≡◌, ◌×◌, IfOk, length};
+ghost use Rattle.std.specs.Prelude.{◌≡◌, IfOk, length};
 ghost use Rattle.std.specs.List.{AllByRecursion};
 ghost use Rattle.outside.specs.Dock.{HasStreams, IsPage};
 

@@ -60,7 +60,7 @@ fn read_page<B: Database + Drop>(
 }
 
 impl<O: Opener + Drop> SqliteRows<O> {
-    ghost use Rattle.std.specs.Prelude.{◌≡◌, ◌×◌};
+    ghost use Rattle.std.specs.Prelude.{◌≡◌};
     ghost use Rattle.basics.specs.Told.{RoseIf};
 
     /// No database is open.
