@@ -26,7 +26,7 @@ fn open_rows<O: Opener>(opener: &mut O, name: &str) -> Result<SqlRows<O::Base>, 
 
 // Whether the ids of these rows rise from above this one, below 2^63.
 fn are_rising(rows: &[NumberedRow], after: u64) -> bool
-    ensures { IsTrue result → AreRising rows.now after }
+    ensures { IsTrue result ↔ AreRising rows.now after }
 {
     let mut before = after;
     for row in rows {

@@ -1,0 +1,11 @@
+// Files of the tests.
+use outside::Fault;
+use std::fs;
+
+/// Removes a database and its log, where they stand.
+pub fn remove(rt: &HostRuntime, name: &str) -> Result<(), Fault> {
+    let log = format!(in rt.alloc(); "{name}-wal")?;
+    let _ = fs::remove_file(rt, name);
+    let _ = fs::remove_file(rt, log.as_str());
+    Ok(())
+}
