@@ -151,8 +151,15 @@ pub fn load<D: Dock>(alloc: Global, dock: &mut D, name: &str, job: Job) -> Resul
         seq: 0,
         is_over: false,
     };
-    while !progress.is_over {
+    for _ in 0..u64::MAX {
         commit_next(alloc, dock, job.batch, &mut progress)?;
+        if progress.is_over {
+            break;
+        }
     }
-    if job.dedup { merge_all(alloc, dock) } else { Ok(()) }
+    if job.dedup {
+        merge_all(alloc, dock)
+    } else {
+        Ok(())
+    }
 }

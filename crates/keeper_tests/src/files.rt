@@ -9,3 +9,12 @@ pub fn remove(rt: &HostRuntime, name: &str) -> Result<(), Fault> {
     let _ = fs::remove_file(rt, log.as_str());
     Ok(())
 }
+
+/// Writes a text, in place of what stands there.
+pub fn write_text(rt: &HostRuntime, name: &str, text: &str) -> Result<(), Fault> {
+    remove(rt, name)?;
+    match fs::write(rt, name, text) {
+        Ok(()) => Ok(()),
+        Err(_) => Err(Fault::Failed),
+    }
+}

@@ -158,3 +158,12 @@ pub fn play<D: Dock>(
     }
     Ok(told)
 }
+
+/// Asks for marks and opens a load, which both fail where no store is open.
+pub fn calls_before_opening<D: Dock>(alloc: Global, dock: &mut D) -> Result<(), NoMemory> {
+    let streams = asked_streams(alloc)?;
+    let _ = dock.read_marks(alloc, &streams);
+    let plan = drawn_plan(alloc, &mut Draw::new(1))?;
+    let _ = dock.open_load(&plan);
+    Ok(())
+}
