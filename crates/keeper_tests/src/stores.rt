@@ -11,7 +11,7 @@ use std::test::Fail;
 
 const MOMENT: u64 = 1_700_000_000_000;
 
-const SEEDS: u64 = 8;
+const SEEDS: u64 = 5;
 
 const LOADS: u32 = 3;
 
