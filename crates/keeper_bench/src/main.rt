@@ -9,7 +9,7 @@ mod load;
 use crate::load::{Job, load};
 use anyhow::{Context, Result, bail};
 use outside::{StdSink, StdSource};
-use sqlite_dock::SqliteDock;
+use sqlite_dock::{SqliteDock, SqliteKeeper};
 use sqlite_file::FileOpener;
 use std::io;
 use std::time::SystemTime;
@@ -41,7 +41,7 @@ fn main(rt: HostRuntime) -> Result<()> {
     let mut dock = SqliteDock::new(
         rt.alloc(),
         moment(&rt)?,
-        FileOpener::new(&rt),
+        SqliteKeeper::new(rt.alloc(), FileOpener::new(&rt)),
         StdSource::new(rt.reader()),
         StdSink::new(io::writer(&rt)),
     )?;

@@ -3,7 +3,7 @@ use crate::files::{remove, write_text};
 use crate::play::{calls_before_opening, play};
 use outside::{Bytes, Dock, FailList, Fault};
 use outside_mem::{MemDock, MemSink, MemSource};
-use sqlite_dock::SqliteDock;
+use sqlite_dock::{SqliteDock, SqliteKeeper};
 use sqlite_file::FileOpener;
 use std::alloc::Global;
 use std::fs;
@@ -24,7 +24,7 @@ fn file_dock(rt: &HostRuntime) -> Result<FileDock<'_>, Fault> {
     Ok(SqliteDock::new(
         alloc,
         MOMENT,
-        FileOpener::new(rt),
+        SqliteKeeper::new(alloc, FileOpener::new(rt)),
         source,
         sink,
     )?)

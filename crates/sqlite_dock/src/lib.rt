@@ -1,11 +1,8 @@
-//! A destination's store and a source's tables in SQLite: their adapters keep counts and the marks of the sides, and tell
-//! nothing of what the store holds.
+//! A destination's store and a source's tables in SQLite.
 #![tactic(auto)]
 
-mod dock;
-mod page;
-mod store;
+mod keeper;
 mod table_rows;
 
-pub use dock::SqliteDock;
+pub use keeper::{SqliteDock, SqliteKeeper};
 pub use table_rows::SqliteRows;

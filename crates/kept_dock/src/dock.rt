@@ -1,30 +1,25 @@
-// A destination over a store in SQLite.
+// A dock over a keeper.
 ghost use Rattle.std.specs.Prelude.{◌≡◌};
 ghost use Rattle.outside.specs.Link.{kind_of};
 
-use crate::store::{
-    commit, merge, open_load, open_tables, read_marks, read_unmerged, read_winner, show,
-};
+use crate::Keeper;
+use crate::store::{open_load, read_marks, read_unmerged};
 use line_streams::{InputLines, OutputLines};
 use outside::{
     Dock, DockCounts, DockTally, Fault, Load, LoadPlan, MarksList, NoMemory, PollKind, Polled,
     RawRow, RawRowList, Sequence, Sink, Source, StreamIdList, StreamNo, Unmerged,
 };
-use sqlite_calls::Opener;
-use sqlite_tables::SqlTables;
 use std::alloc::Global;
 
-/// A destination over a store in SQLite, with lines of a source of bytes as its input and a sink of bytes as its output.
+/// A destination over a keeper of tables, with lines of a source of bytes as its input and a sink of bytes as its output.
 ///
-/// Each commit, merge, show and opening of a load is one transaction, on the disk before the call answers. An emitted
-/// line is written through before its call answers. A poll reads the source at most once, and waits where that does.
-/// Before a store is opened its calls are `Failed`; opening another closes the one before. The dock tells no events.
+/// An emitted line is written through before its call answers. A poll reads the source at most once, and waits where that
+/// does. The dock tells no events.
 #[derive(Drop)]
-pub struct SqliteDock<O: Opener + Drop, I: Source + Drop, W: Sink + Drop> {
+pub struct KeptDock<K: Keeper + Drop, I: Source + Drop, W: Sink + Drop> {
     alloc: Global,
     moment: u64,
-    opener: O,
-    tables: Option<SqlTables<O::Base>>,
+    keeper: K,
     input: InputLines<I>,
     output: OutputLines<W>,
     tally: DockTally,
@@ -45,7 +40,7 @@ fn kind_of_poll(polled: &Polled) -> PollKind
     }
 }
 
-impl<O: Opener + Drop, I: Source + Drop, W: Sink + Drop> SqliteDock<O, I, W> {
+impl<K: Keeper + Drop, I: Source + Drop, W: Sink + Drop> KeptDock<K, I, W> {
     ghost use Rattle.std.specs.Prelude.{◌≡◌, [], None, IfOk};
     ghost use Rattle.basics.specs.Told.{RoseIf};
 
@@ -53,7 +48,7 @@ impl<O: Opener + Drop, I: Source + Drop, W: Sink + Drop> SqliteDock<O, I, W> {
     pub fn new(
         alloc: Global,
         moment: u64,
-        opener: O,
+        keeper: K,
         source: I,
         sink: W,
     ) -> Result<Self, NoMemory>
@@ -62,11 +57,10 @@ impl<O: Opener + Drop, I: Source + Drop, W: Sink + Drop> SqliteDock<O, I, W> {
         ensures counts { IfOk result (λ dock. dock.tally ≡ record { read_faults = 0; store_faults = 0; write_faults = 0; quiet = 0; opens = 0 }) }
         ensures rows_read { IfOk result (λ dock. dock.rows_read ≡ 0) }
     {
-        Ok(SqliteDock {
+        Ok(KeptDock {
             alloc,
             moment,
-            opener,
-            tables: None,
+            keeper,
             input: InputLines::new(alloc, source)?,
             output: OutputLines::new(alloc, sink),
             tally: DockTally {
@@ -95,16 +89,14 @@ impl<O: Opener + Drop, I: Source + Drop, W: Sink + Drop> SqliteDock<O, I, W> {
     }
 }
 
-impl<O: Opener + Drop, I: Source + Drop, W: Sink + Drop> Dock for SqliteDock<O, I, W> {
+impl<K: Keeper + Drop, I: Source + Drop, W: Sink + Drop> Dock for KeptDock<K, I, W> {
     ghost use Rattle.std.specs.Prelude.{None, Some};
 
     ghost seen = { λ dock. record { trace = None; counts = dock.tally; face = record { poll = dock.poll; side_marks = dock.side_marks; hand = None; moment = Some dock.moment }; rows_read = dock.rows_read } };
 
     fn open_store(&mut self, name: &str) -> Result<(), Fault> {
-        self.tables = None;
-        match open_tables(self.alloc, &mut self.opener, name) {
-            Ok(tables) => {
-                self.tables = Some(tables);
+        match self.keeper.open(name) {
+            Ok(()) => {
                 self.tally.opens = self.tally.opens.saturating_add(1);
                 Ok(())
             }
@@ -124,19 +116,19 @@ impl<O: Opener + Drop, I: Source + Drop, W: Sink + Drop> Dock for SqliteDock<O, 
     }
 
     fn read_marks(&mut self, alloc: Global, streams: &StreamIdList) -> Result<MarksList, Fault> {
-        match read_marks(&mut self.tables, alloc, streams) {
+        match read_marks(&mut self.keeper, alloc, streams) {
             Ok(marks) => Ok(marks),
             Err(fault) => Err(self.count_fault(fault)),
         }
     }
 
     fn open_load(&mut self, plan: &LoadPlan) -> Result<Load, Fault> {
-        match open_load(&mut self.tables, plan, self.moment) {
-            Ok((load, side_marks)) => {
-                self.side_marks = side_marks;
+        match open_load(&mut self.keeper, plan, self.moment) {
+            Ok(load) => {
+                self.side_marks = load.side_marks;
                 self.poll = PollKind::Other;
                 Ok(Load {
-                    load,
+                    load: load.load,
                     moment: self.moment,
                 })
             }
@@ -145,7 +137,7 @@ impl<O: Opener + Drop, I: Source + Drop, W: Sink + Drop> Dock for SqliteDock<O, 
     }
 
     fn commit(&mut self, stream: StreamNo, rows: &RawRowList) -> Result<(), Fault> {
-        match commit(&mut self.tables, stream, rows) {
+        match self.keeper.commit(stream, rows) {
             Ok(()) => Ok(()),
             Err(fault) => Err(self.count_fault(fault)),
         }
@@ -168,7 +160,7 @@ impl<O: Opener + Drop, I: Source + Drop, W: Sink + Drop> Dock for SqliteDock<O, 
         most: u32,
     ) -> Result<Unmerged, Fault> {
         let mark = *self.side_marks.at(stream as usize);
-        match read_unmerged(&mut self.tables, alloc, stream, mark, most) {
+        match read_unmerged(&mut self.keeper, alloc, stream, mark, most) {
             Ok(page) => {
                 self.rows_read = self.rows_read.saturating_add(page.rows.len() as u64);
                 Ok(page)
@@ -183,7 +175,7 @@ impl<O: Opener + Drop, I: Source + Drop, W: Sink + Drop> Dock for SqliteDock<O, 
         stream: StreamNo,
         key: &[u8],
     ) -> Result<Option<RawRow>, Fault> {
-        match read_winner(&mut self.tables, alloc, stream, key) {
+        match self.keeper.winner(alloc, stream, key) {
             Ok(winner) => {
                 if winner.is_some() {
                     self.rows_read = self.rows_read.saturating_add(1);
@@ -195,7 +187,7 @@ impl<O: Opener + Drop, I: Source + Drop, W: Sink + Drop> Dock for SqliteDock<O, 
     }
 
     fn merge(&mut self, stream: StreamNo, winners: &RawRowList, mark: u64) -> Result<(), Fault> {
-        match merge(&mut self.tables, stream, winners, mark) {
+        match self.keeper.merge(stream, winners, mark) {
             Ok(()) => {
                 self.side_marks.set(stream as usize, mark);
                 Ok(())
@@ -205,7 +197,7 @@ impl<O: Opener + Drop, I: Source + Drop, W: Sink + Drop> Dock for SqliteDock<O, 
     }
 
     fn show(&mut self, stream: StreamNo) -> Result<(), Fault> {
-        match show(&mut self.tables, stream) {
+        match self.keeper.show(stream) {
             Ok(()) => Ok(()),
             Err(fault) => Err(self.count_fault(fault)),
         }
