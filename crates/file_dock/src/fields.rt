@@ -116,8 +116,7 @@ fn blob_at(alloc: Global, record: &ByteRecord, at: usize) -> Result<Bytes, Fault
 }
 
 /// The row whose fields begin at this one.
-pub fn row_at(alloc: Global, record: &ByteRecord, first: usize) -> Result<RawRow, Fault>
-{
+pub fn row_at(alloc: Global, record: &ByteRecord, first: usize) -> Result<RawRow, Fault> {
     Ok(RawRow {
         load: number_at(record, first)?,
         seq: number_at(record, first.saturating_add(1))?,

@@ -130,11 +130,7 @@ impl<F: Folder + Drop> Keeper for FileKeeper<F> {
 
     fn marks(&mut self, alloc: Global, streams: &StreamIdList) -> Result<MarksList, Fault> {
         let store = self.opened()?;
-        Ok(raw_tables::read_marks(
-            alloc,
-            &store.tables,
-            streams.as_slice(),
-        )?)
+        Ok(raw_tables::read_marks(alloc, &store.tables, streams.as_slice())?)
     }
 
     fn open_load(&mut self, plan: &LoadPlan, moment: u64) -> Result<KeptLoad, Fault> {
@@ -162,12 +158,7 @@ impl<F: Folder + Drop> Keeper for FileKeeper<F> {
         if !do_rise(&store.tables) {
             return Err(Fault::Failed);
         }
-        Ok(raw_tables::read_page(
-            alloc,
-            &store.tables,
-            stream,
-            most as usize,
-        )?)
+        Ok(raw_tables::read_page(alloc, &store.tables, stream, most as usize)?)
     }
 
     fn winner(

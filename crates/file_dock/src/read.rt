@@ -113,7 +113,9 @@ impl Reading {
         let place = number_at(record, 1)?;
         let row = row_at(self.alloc, record, 3)?;
         self.places = self.places.max(place);
-        self.stream_at(record, 2)?.rows.push(PlacedRow { place, row })?;
+        self.stream_at(record, 2)?
+            .rows
+            .push(PlacedRow { place, row })?;
         Ok(())
     }
 

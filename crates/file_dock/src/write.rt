@@ -11,12 +11,7 @@ fn put(out: &mut Writer<Vec<u8>>, fields: &Fields) -> Result<(), Fault> {
     }
 }
 
-fn put_load(
-    alloc: Global,
-    out: &mut Writer<Vec<u8>>,
-    load: u64,
-    moment: u64,
-) -> Result<(), Fault> {
+fn put_load(alloc: Global, out: &mut Writer<Vec<u8>>, load: u64, moment: u64) -> Result<(), Fault> {
     let mut fields = Fields::of(alloc, LOADS)?;
     fields.number(load)?;
     fields.number(moment)?;

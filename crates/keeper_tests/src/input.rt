@@ -42,7 +42,11 @@ fn tell(alloc: Global, told: &mut Bytes, polled: &Polled) -> Result<(), NoMemory
         Polled::NoMemory => b"?",
     };
     told.extend(kind)?;
-    told.extend(if matches!(polled, Polled::Torn(_)) { b" torn" } else { b"" })?;
+    told.extend(if matches!(polled, Polled::Torn(_)) {
+        b" torn"
+    } else {
+        b""
+    })?;
     told.push(b' ')
 }
 
@@ -66,13 +70,19 @@ fn source_of(alloc: Global, text: &[u8], failing: u64) -> Result<MemSource, NoMe
 fn lines_come_in_order_however_the_source_is_cut(rt: HostRuntime) -> Result<(), Fail> {
     let alloc = rt.alloc();
     let whole = poll_times(alloc, source_of(alloc, b"one\n\ntwo\n three", 2)?, 6)?;
-    assert_eq!(rt; whole.as_slice(), b"one two Failed  three torn End End ".as_slice());
+    assert_eq!(rt;
+        whole.as_slice(),
+        b"one two Failed  three torn End End ".as_slice()
+    );
     let drops = Drops {
         source: source_of(alloc, b"one\n\ntwo\n three", 3)?,
         calls: 0,
     };
     let cut = poll_times(alloc, drops, 14)?;
-    assert_eq!(rt; cut.as_slice(), b". one Failed ? two . . ?  three torn End End End End End ".as_slice());
+    assert_eq!(rt;
+        cut.as_slice(),
+        b". one Failed ? two . . ?  three torn End End End End End ".as_slice()
+    );
     Ok(())
 }
 

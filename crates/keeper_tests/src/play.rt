@@ -28,12 +28,7 @@ fn tell_marks<D: Dock>(alloc: Global, dock: &mut D, told: &mut Bytes) -> Result<
     Ok(())
 }
 
-fn tell_page<D: Dock>(
-    alloc: Global,
-    dock: &mut D,
-    most: u32,
-    told: &mut Bytes,
-) -> Result<(), Fault>
+fn tell_page<D: Dock>(alloc: Global, dock: &mut D, most: u32, told: &mut Bytes) -> Result<(), Fault>
     requires known { length (D.seen dock.old).face.side_marks ≡ 1 }
     requires some { 0 < most }
     ensures { length (D.seen dock.new).face.side_marks ≡ 1 }
@@ -64,12 +59,7 @@ fn tell_winner<D: Dock>(
     Ok(())
 }
 
-fn merge<D: Dock>(
-    alloc: Global,
-    dock: &mut D,
-    most: u32,
-    told: &mut Bytes,
-) -> Result<(), Fault>
+fn merge<D: Dock>(alloc: Global, dock: &mut D, most: u32, told: &mut Bytes) -> Result<(), Fault>
     requires known { length (D.seen dock.old).face.side_marks ≡ 1 }
     requires some { 0 < most }
     ensures { length (D.seen dock.new).face.side_marks ≡ 1 }

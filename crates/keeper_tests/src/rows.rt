@@ -109,7 +109,8 @@ pub fn drawn_rows(
 /// Writes a row.
 pub fn tell_row(alloc: Global, told: &mut Bytes, row: &RawRow) -> Result<(), NoMemory> {
     let numbers = format!(in alloc;
-        " {}.{} {} {} {} ", row.load, row.seq, row.generation, row.extracted_at, row.loaded_at
+        " {}.{} {} {} {} ",
+        row.load, row.seq, row.generation, row.extracted_at, row.loaded_at
     )?;
     told.extend(numbers.as_bytes())?;
     for text in [

@@ -8,7 +8,8 @@ use std::alloc::Global;
 use std::fs::File;
 use std::test::Fail;
 
-const MADE: &str = "CREATE TABLE source_rows (tab TEXT, id INTEGER, body TEXT, PRIMARY KEY (tab, id));
+const MADE: &str =
+    "CREATE TABLE source_rows (tab TEXT, id INTEGER, body TEXT, PRIMARY KEY (tab, id));
 INSERT INTO source_rows (tab, id, body) VALUES ('b', 1, '{\"b\":1}'), ('a', 9, '{\"a\":9}'), ('a', 1, '{\"a\":1}'), ('a', 4, '{\"a\":\"ë\"}'), ('c', -3, '{}'), ('d', 2, NULL);";
 
 fn make_with<O: Opener>(opener: &mut O, name: &str, sql: &str) -> Result<(), Fault> {
@@ -87,7 +88,11 @@ fn a_database_that_is_missing_or_has_no_rows_is_no_source(rt: HostRuntime) -> Re
     remove(&rt, "keeper_none.db")?;
     assert_eq!(rt; read_rows(&rt, "keeper_none.db")?, (true, 1));
     assert!(rt; File::open(&rt, "keeper_none.db").is_err());
-    make_with(&mut FileOpener::new(&rt), "keeper_none.db", "CREATE TABLE other (x INTEGER);")?;
+    make_with(
+        &mut FileOpener::new(&rt),
+        "keeper_none.db",
+        "CREATE TABLE other (x INTEGER);",
+    )?;
     assert_eq!(rt; read_rows(&rt, "keeper_none.db")?, (true, 1));
     remove(&rt, "keeper_none.db")?;
     Ok(())

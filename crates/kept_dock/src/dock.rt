@@ -45,13 +45,7 @@ impl<K: Keeper + Drop, I: Source + Drop, W: Sink + Drop> KeptDock<K, I, W> {
     ghost use Rattle.basics.specs.Told.{RoseIf};
 
     /// A dock of which no store is open, whose loads begin at this moment, in milliseconds since 1970.
-    pub fn new(
-        alloc: Global,
-        moment: u64,
-        keeper: K,
-        source: I,
-        sink: W,
-    ) -> Result<Self, NoMemory>
+    pub fn new(alloc: Global, moment: u64, keeper: K, source: I, sink: W) -> Result<Self, NoMemory>
         ensures moment { IfOk result (λ dock. dock.moment ≡ moment) }
         ensures streams { IfOk result (λ dock. dock.side_marks ≡ []) }
         ensures counts { IfOk result (λ dock. dock.tally ≡ record { read_faults = 0; store_faults = 0; write_faults = 0; quiet = 0; opens = 0 }) }

@@ -24,11 +24,7 @@ pub fn read_marks<K: Keeper>(
 }
 
 /// Opens a load.
-pub fn open_load<K: Keeper>(
-    keeper: &mut K,
-    plan: &LoadPlan,
-    moment: u64,
-) -> Result<KeptLoad, Fault>
+pub fn open_load<K: Keeper>(keeper: &mut K, plan: &LoadPlan, moment: u64) -> Result<KeptLoad, Fault>
     ensures { IfOk result (λ load. HasStreams plan.now load.side_marks) }
 {
     let load = keeper.open_load(plan, moment)?;

@@ -1,8 +1,6 @@
 // A destination's tables in SQLite.
 use kept_dock::{Keeper, KeptDock, KeptLoad};
-use outside::{
-    Fault, LoadPlan, MarksList, RawRow, RawRowList, StreamIdList, StreamNo, Unmerged,
-};
+use outside::{Fault, LoadPlan, MarksList, RawRow, RawRowList, StreamIdList, StreamNo, Unmerged};
 use sqlite_calls::Opener;
 use sqlite_tables::SqlTables;
 use std::alloc::Global;

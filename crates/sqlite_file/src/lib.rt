@@ -76,10 +76,7 @@ impl Opener for FileOpener<'_> {
     type Base = FileDatabase;
 
     fn open(&mut self, name: &str) -> Result<FileDatabase, Fault> {
-        let stored = Stored::over(
-            self.runtime.alloc(),
-            Connection::open(self.runtime, name),
-        )?;
+        let stored = Stored::over(self.runtime.alloc(), Connection::open(self.runtime, name))?;
         Ok(FileDatabase { stored })
     }
 

@@ -4,7 +4,8 @@ use outside::{Fault, NumberedRow, NumberedRowList};
 use sqlite_calls::{Cell, Database, Prepared};
 use std::alloc::Global;
 
-const PAGE: &str = "SELECT id, body FROM source_rows WHERE tab = ?1 AND id > ?2 ORDER BY id LIMIT ?3";
+const PAGE: &str =
+    "SELECT id, body FROM source_rows WHERE tab = ?1 AND id > ?2 ORDER BY id LIMIT ?3";
 
 /// The tables of a source in a database: all stand in `source_rows`, each row behind the name of its table.
 #[derive(Drop)]

@@ -72,7 +72,9 @@ fn stream_statements<B: Database>(base: &mut B) -> Result<StreamStatements, Faul
 
 fn row_statements<B: Database>(alloc: Global, base: &mut B) -> Result<RowStatements, Fault> {
     let commit = format!(in alloc; "INSERT INTO raw_rows (stream, {ROW_COLUMNS})")?;
-    let merge = format!(in alloc; "INSERT OR REPLACE INTO final_rows (stream, side, {ROW_COLUMNS})")?;
+    let merge = format!(in alloc;
+        "INSERT OR REPLACE INTO final_rows (stream, side, {ROW_COLUMNS})"
+    )?;
     let page = format!(in alloc;
         "SELECT {ROW_COLUMNS}, pos FROM raw_rows WHERE pos > ?1 AND stream = ?2 AND generation BETWEEN ?3 AND ?4 AND length(\"key\") > 0 ORDER BY pos LIMIT ?5"
     )?;
@@ -86,8 +88,7 @@ fn row_statements<B: Database>(alloc: Global, base: &mut B) -> Result<RowStateme
         winner: base.prepare(winner.as_str())?,
         drop_below: base.prepare("DELETE FROM raw_rows WHERE stream = ?1 AND generation < ?2")?,
         drop_side: base.prepare("DELETE FROM final_rows WHERE stream = ?1 AND side = ?2")?,
-        show_side: base
-            .prepare("UPDATE final_rows SET side = 0 WHERE stream = ?1 AND side = 1")?,
+        show_side: base.prepare("UPDATE final_rows SET side = 0 WHERE stream = ?1 AND side = 1")?,
     })
 }
 

@@ -1,8 +1,0 @@
-use Rattle.std.proofs.Common.{drop}
-use Rattle.std.specs.List.{AllByRecursion}
-use Rattle.outside.specs.Places.{RowsRise, TablesRise}
-use Rattle.file_dock.proofs.places.do_rise.Given as goal
-
--- all rise where those of the tables that are left do
-abbrev pub invariant-loop-table : goal.invariant-loop-table
-invariant-loop-table l = AllByRecursion (RowsRise l.tables.places) (drop l.table-index l.tables.streams) → TablesRise l.fn.tables
