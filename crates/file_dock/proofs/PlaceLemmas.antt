@@ -1,5 +1,5 @@
 -- Places that rise one after another are behind all those before.
-use Rattle.std.proofs.Common.{ℕ, ◌<◌, ◌≤◌, List, [], ◌∷◌, arith}
+use Rattle.std.proofs.Common.{ℕ, ◌≤◌, List, [], ◌∷◌, arith}
 use Rattle.std.specs.List.{AllByRecursion}
 use Rattle.outside.specs.Places.{IsUpTo, IsBehind, PlacesRise, RowsRise}
 use Rattle.outside.specs.declared.table.PlacedRow.{PlacedRow}

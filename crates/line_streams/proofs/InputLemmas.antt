@@ -1,11 +1,10 @@
 -- What is to come of an input, and what its answers give.
-use Rattle.std.proofs.Common.{◌≡◌, ℕ, ◌≤◌, List, [], ◌∷◌, ◌++◌, length, take, Bool, true, false, cond, Option, None, Some, option_map, refl, sym, ap, subst, ◌∙◌, arith}
+use Rattle.std.proofs.Common.{◌≡◌, ℕ, ◌≤◌, List, [], ◌∷◌, ◌++◌, length, Bool, true, false, cond, Option, None, Some, option_map, refl, sym, ap, subst}
 use Rattle.std.specs.Prelude.{nat_lt}
 use Rattle.std.proofs.lemmas.Bool.{ltb-false}
 use Rattle.text_lines.specs.Lines.{is_line, pieces_of}
 use Rattle.piecewise_lines.specs.Unread.{Unread}
 use Rattle.piecewise_lines.specs.Next.{next_of, answer_of}
-use Rattle.piecewise_lines.specs.declared.NextLine.{NextLine}
 use Rattle.piecewise_lines.specs.declared.NextLine.TheVariants as answer
 
 -- where nothing was read, what the source has is to come
