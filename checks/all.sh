@@ -1,6 +1,6 @@
 #!/usr/bin/env bash
 # Runs the checks over the worker that the gate has built, or builds it: the program's edge, a file of real messages where
-# that is at hand, and random JSON texts and random rows where python3 is. Each check that cannot run says so and is passed over.
+# that is at hand, and random JSON texts, random rows and stores in files where python3 is. Each check that cannot run says so and is passed over.
 set -u
 cd "$(dirname "${BASH_SOURCE[0]}")/.." || exit 2
 
@@ -22,5 +22,11 @@ if [ -x "$rows" ] && command -v python3 >/dev/null 2>&1; then
     python3 checks/random_values.py "$rows" || failed=1
 else
     echo "checks: rows_bench was not built, or no python3, so no random values"
+fi
+stores=crates/keeper_bench/out/keeper_bench
+if [ -x "$stores" ] && command -v python3 >/dev/null 2>&1; then
+    python3 checks/stores.py "$stores" || failed=1
+else
+    echo "checks: keeper_bench was not built, or no python3, so no stores"
 fi
 exit "$failed"

@@ -1,0 +1,13 @@
+//! A destination's store in one file of comma-separated values, which is written anew as a whole at each change. It is meant for
+//! small tables.
+#![tactic(auto)]
+
+mod fields;
+mod folder;
+mod keeper;
+mod places;
+mod read;
+mod write;
+
+pub use folder::{Folder, StdFolder};
+pub use keeper::{FileDock, FileKeeper};
