@@ -49,6 +49,7 @@ impl MessageFeed {
         requires { self.old.seen.ended ≡ None }
         ensures next { GivesNext result self.old.seen self.new.seen }
         ensures text { self.new.text ≡ self.old.text }
+        ensures no_faults { self.new.seen.faults ≡ 0 }
     {
         let found = self.lines.next_line(alloc).map_err(|_| Status::NoMemory)?;
         if found.is_none() {
