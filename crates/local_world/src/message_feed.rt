@@ -20,23 +20,22 @@ pub struct MessageFeed {
 }
 
 impl Model for MessageFeed {
-    ghost use Rattle.std.specs.Prelude.{Some};
     ghost use Rattle.local_world.specs.Begun.{Replay, left_until};
 
     ghost Value = { Replay };
 
-    ghost view = { λ feed. record { text = feed.lines.text; seen = record { left = Some (left_until feed.ended feed.lines.left); ended = feed.ended; faults = 0 } } };
+    ghost view = { λ feed. record { text = feed.lines.text; left = left_until feed.ended feed.lines.left; seen = record { ended = feed.ended; faults = 0 } } };
 }
 
 impl MessageFeed {
-    ghost use Rattle.std.specs.Prelude.{◌≡◌, None, IfOk};
-    ghost use Rattle.outside.specs.Feed.{GivesNext};
+    ghost use Rattle.std.specs.Prelude.{◌≡◌, None};
+    ghost use Rattle.outside.specs.Feed.{GivesNext, anything};
     ghost use Rattle.text_lines.specs.Lines.{lines_of};
-    ghost use Rattle.local_world.specs.Begun.{gives_all};
+    ghost use Rattle.local_world.specs.Begun.{Gives, MayGive, gives_all};
 
     /// A feed over the lines of a text, which gives all of them.
     pub fn new(alloc: Global, text: Bytes) -> Self
-        ensures { result ≡ record { text = text; seen = gives_all (lines_of text) } }
+        ensures { result ≡ gives_all text (lines_of text) }
     {
         MessageFeed {
             lines: LeftLines::new(alloc, text),
@@ -47,7 +46,9 @@ impl MessageFeed {
     // The next line of a feed that has not ended.
     fn give_line(&mut self, alloc: Global) -> Result<Option<Bytes>, Status>
         requires { self.old.seen.ended ≡ None }
-        ensures next { GivesNext result self.old.seen self.new.seen }
+        ensures next { GivesNext result (MayGive self.old.left) (MayGive self.new.left) self.old.seen self.new.seen }
+        ensures open { self.new.seen.ended ≡ None → MayGive self.new.left anything }
+        ensures gives { Gives result self.old self.new }
         ensures text { self.new.text ≡ self.old.text }
         ensures no_faults { self.new.seen.faults ≡ 0 }
     {
@@ -60,23 +61,33 @@ impl MessageFeed {
 }
 
 impl Feed for MessageFeed {
-    ghost use Rattle.std.specs.Prelude.{◌≡◌, None, Err, IfErr, IfSome, IsSomeAnd, OnOk, is_some};
+    ghost use Rattle.std.specs.Prelude.{◌≡◌, None, Err, IfErr, IfSome, OnOk};
     ghost use Rattle.basics.specs.Told.{RoseIf};
-    ghost use Rattle.outside.specs.Feed.{AnswersAgain, GivesNext, ended_with};
-    ghost use Rattle.local_world.specs.Begun.{Begins, Refuses};
+    ghost use Rattle.outside.specs.Feed.{
+        AnswersAgain, Begins as BeginsTo, GivesNext, RefusesTexts, StartsAlike, anything, ended_with, nothing_left,
+    };
+    ghost use Rattle.local_world.specs.Begun.{Begins, Gives, MayBegin, MayGive, Refuses};
 
     ghost seen = { λ feed. feed.seen };
+
+    ghost MayGive = { λ feed. MayGive feed.left };
+
+    ghost MayBegin = { λ feed. MayBegin feed.text };
 
     // What the feed will give, by the array of states; and a refusal's cause.
     fn begin(&mut self, alloc: Global, _catalog: &[u8], states: &[u8]) -> Result<(), Status>
         ensures ok { OnOk result (self.new.seen.ended ≡ None) }
+        ensures begins { OnOk result (BeginsTo (MayBegin self.old.text) _catalog.now states.now (MayGive self.new.left)) }
+        ensures open { OnOk result (MayGive self.new.left anything) }
         ensures refused { IfErr result (λ why. self.new.seen ≡ record (ended_with why self.old.seen) { faults = self.new.seen.faults }) }
+        ensures causes { IfErr result (RefusesTexts (MayBegin self.old.text) _catalog.now states.now) }
         ensures no_refusal { ¬ (result ≡ Err Status.Ok) }
-        ensures told { is_some self.new.seen.left ≡ is_some self.old.seen.left }
+        ensures starts { StartsAlike (MayBegin self.old.text) (MayBegin self.new.text) }
         ensures faults { RoseIf (result ≡ Err Status.RowFault) self.old.seen.faults self.new.seen.faults }
         ensures stays { ¬ (result ≡ Err Status.RowFault) → self.new.seen.faults ≡ self.old.seen.faults }
-        ensures begins { OnOk result (IsSomeAnd self.new.seen.left (Begins self.old.text states.now)) }
+        ensures left { OnOk result (Begins self.old.text states.now self.new.left) }
         ensures refuses { IfErr result (Refuses self.old.text states.now) }
+        ensures over { IfErr result (λ why. self.new.left ≡ nothing_left why) }
         ensures text { self.new.text ≡ self.old.text }
         ensures no_faults { self.new.seen.faults ≡ 0 }
     {
@@ -95,7 +106,10 @@ impl Feed for MessageFeed {
 
     fn next_line(&mut self, alloc: Global) -> Result<Option<Bytes>, Status>
         ensures again { IfSome self.old.seen.ended (λ why. AnswersAgain result why self.old.seen self.new.seen) }
-        ensures next { self.old.seen.ended ≡ None → GivesNext result self.old.seen self.new.seen }
+        ensures next { self.old.seen.ended ≡ None → GivesNext result (MayGive self.old.left) (MayGive self.new.left) self.old.seen self.new.seen }
+        ensures open { self.new.seen.ended ≡ None → MayGive self.new.left anything }
+        ensures starts { StartsAlike (MayBegin self.old.text) (MayBegin self.new.text) }
+        ensures gives { Gives result self.old self.new }
         ensures text { self.new.text ≡ self.old.text }
         ensures no_faults { self.new.seen.faults ≡ 0 }
     {
