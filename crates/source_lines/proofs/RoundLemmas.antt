@@ -1,120 +1,148 @@
--- What is left of a round, stream by stream.
-use Rattle.std.proofs.Common.{inl, inr, ◌≡◌, ◌∙◌, ℕ, ◌+◌, List, [], ◌∷◌, ◌++◌, drop, slice_get, Option, None, Some, IfSome, option_map, Result, Ok, Err, IsErrAnd, IfErr, IfOk, OnErr, refl, sym, ap, subst}
+-- What a round may give, stream by stream.
+use Rattle.std.proofs.Common.{inl, inr, ◌≡◌, ◌∙◌, ◌≤◌, ℕ, ◌+◌, List, [], ◌∷◌, drop, length, slice_get, Option, None, Some, Result, Ok, Err, IsErrAnd, IfErr, IfOk, OnErr, refl, sym, ap, subst}
+use Rattle.std.proofs.lemmas.List.{drop_all}
 use Rattle.outside.specs.declared.status.Status.{Status}
 use Rattle.outside.specs.declared.status.Status.TheVariants as status
-use Rattle.outside.specs.Feed.{FeedSeen, Left, before_line, behind_line, nothing_left}
+use Rattle.outside.specs.Feed.{Left, Narrows, NarrowsBehind, anything, behind_line, nothing_left}
 use Rattle.catalog.specs.declared.stream.ConfStream.{ConfStream}
-use Rattle.source_lines.specs.Streams.{left_of}
 use Rattle.source_lines.specs.Turns.{GivesLine}
-use Rattle.source_lines.specs.Sources.{GoesOn, Listed, Openings, Opens, OpensNotNext, Round, SourceSeen, goes_on, lines_from, lines_of, listed_lines, round_left}
+use Rattle.source_lines.specs.Sources.{Listed, OpensAlike, SourceSeen}
+use Rattle.source_lines.specs.Giving.{MayGiveLines, MayGiveRound, MayGiveStream, MayGiveStreams, Opened, Refused, Round, Untold, listed_lines}
+use Rattle.source_lines.specs.Rounds.{Advances, OpensNext, OpensNotNext}
 use Rattle.source_lines.proofs.BeginLemmas.{left_with}
+
+-- ---- what may be given where what streams may have has narrowed
+
+lines_narrow : (lines : List (List ℕ)) (Before After : Left → Type 0) → Narrows Before After → Narrows (MayGiveLines lines Before) (MayGiveLines lines After)
+lines_narrow [] Before After narrows left gives = narrows left gives
+lines_narrow (line ∷ lines) Before After narrows left (inl untold) = inl untold
+lines_narrow (line ∷ lines) Before After narrows left (inr more) = inr (more.0, more.1, lines_narrow lines Before After narrows more.0 more.2)
+
+stream_narrow : {Start : Type 0} (Old New : ℕ → ConfStream → Start → Result Listed Status → Type 0) (moment number : ℕ) (stream : ConfStream) (start : Start) (Before After : Left → Type 0)
+    → OpensAlike Old New → Narrows Before After → Narrows (MayGiveStream moment stream.id (Old number stream start) Before) (MayGiveStream moment stream.id (New number stream start) After)
+stream_narrow Old New moment number stream start Before After alike narrows left (Untold untold) = Untold untold
+stream_narrow Old New moment number stream start Before After alike narrows left (Refused why opens is) = Refused why (alike number stream start (Err why) opens) is
+stream_narrow Old New moment number stream start Before After alike narrows left (Opened listed opens gives) =
+    Opened listed (alike number stream start (Ok listed) opens) (lines_narrow (listed_lines moment stream.id listed) Before After narrows left gives)
+
+pub streams_narrow : {Start : Type 0} (Old New : ℕ → ConfStream → Start → Result Listed Status → Type 0) (moment number : ℕ) (streams : List ConfStream) (starts : List Start)
+    → OpensAlike Old New → Narrows (MayGiveStreams Old moment number streams starts) (MayGiveStreams New moment number streams starts)
+streams_narrow Old New moment number [] starts alike left gives = gives
+streams_narrow Old New moment number (stream ∷ streams) [] alike left gives = gives
+streams_narrow Old New moment number (stream ∷ streams) (start ∷ starts) alike left gives =
+    stream_narrow Old New moment number stream start (MayGiveStreams Old moment (number + 1) streams starts) (MayGiveStreams New moment (number + 1) streams starts) alike
+    (streams_narrow Old New moment (number + 1) streams starts alike) left gives
+
+pub round_narrow : {Start : Type 0} (Old New : ℕ → ConfStream → Start → Result Listed Status → Type 0) (moment : ℕ) (round : Round Start) → OpensAlike Old New
+    → Narrows (MayGiveRound Old moment round) (MayGiveRound New moment round)
+round_narrow Old New moment round alike =
+    lines_narrow round.lines (MayGiveStreams Old moment round.next (drop round.next round.streams) (drop round.next round.starts)) (MayGiveStreams New moment round.next (drop round.next round.streams) (drop round.next round.starts))
+    (streams_narrow Old New moment round.next (drop round.next round.streams) (drop round.next round.starts) alike)
+
+-- ---- nothing may be said of what comes
+
+lines_untold : (lines : List (List ℕ)) (Behind : Left → Type 0) → Behind anything → MayGiveLines lines Behind anything
+lines_untold [] Behind untold = untold
+lines_untold (line ∷ lines) Behind untold = inl refl
+
+streams_untold : {Start : Type 0} (Opens : ℕ → ConfStream → Start → Result Listed Status → Type 0) (moment number : ℕ) (streams : List ConfStream) (starts : List Start) → MayGiveStreams Opens moment number streams starts anything
+streams_untold Opens moment number [] starts = inl refl
+streams_untold Opens moment number (stream ∷ streams) [] = refl
+streams_untold Opens moment number (stream ∷ streams) (start ∷ starts) = Untold refl
+
+pub round_untold : {Start : Type 0} (Opens : ℕ → ConfStream → Start → Result Listed Status → Type 0) (moment : ℕ) (round : Round Start) → MayGiveRound Opens moment round anything
+round_untold Opens moment round =
+    lines_untold round.lines (MayGiveStreams Opens moment round.next (drop round.next round.streams) (drop round.next round.starts))
+    (streams_untold Opens moment round.next (drop round.next round.streams) (drop round.next round.starts))
+
+-- ---- one line
 
 -- a round whose stream has no line left is as it was
 pub round_same : {Start : Type 0} (old new : Round Start) → new ≡ record old { lines = new.lines } → GivesLine None old.lines new.lines → new ≡ old
 round_same {Start} old new is none = is ∙ ap (λ (lines : List (List ℕ)). record old { lines = lines }) (none.1 ∙ sym none.0)
 
--- what the streams from the next on have
-rest_is : {Start : Type 0} (openings : Openings Start) (moment : ℕ) (old : Round Start) (stream : ConfStream) (start : Start) → slice_get old.streams old.next ≡ Some stream → slice_get old.starts old.next ≡ Some start
-    → lines_from openings moment old.next (drop old.next old.streams) (drop old.next old.starts)
-    ≡ lines_of moment stream.id (openings old.next stream start) ∷ lines_from openings moment (old.next + 1) (drop (old.next + 1) old.streams) (drop (old.next + 1) old.starts)
-rest_is {Start} openings moment old stream start at from =
-    ap (λ (streams : List ConfStream). lines_from openings moment old.next streams (drop old.next old.starts)) (left_with old.streams old.next stream at)
-    ∙ ap (λ (starts : List Start). lines_from openings moment old.next (stream ∷ drop (old.next + 1) old.streams) starts) (left_with old.starts old.next start from)
+-- the first of the lines that may be given
+pub gives : {Start : Type 0} (Opens : ℕ → ConfStream → Start → Result Listed Status → Type 0) (moment : ℕ) (old new : Round Start) (line : List ℕ)
+    → new ≡ record old { lines = new.lines } → GivesLine (Some line) old.lines new.lines → NarrowsBehind line (MayGiveRound Opens moment old) (MayGiveRound Opens moment new)
+gives {Start} Opens moment old new line is first left may =
+    let Behind = MayGiveStreams Opens moment old.next (drop old.next old.streams) (drop old.next old.starts) in
+    let moved = subst (λ (r : Round Start). MayGiveRound Opens moment r left) is may in
+    subst (λ (lines : List (List ℕ)). MayGiveLines lines Behind (behind_line line left)) (sym first) (inr (left, refl, moved))
 
-abbrev in_front : List (List ℕ) → Left → Left
-in_front lines left = record left { lines = lines ++ left.lines }
+-- ---- the next stream
 
--- a stream that was opened leaves what was left
-opened_left : {Start : Type 0} (openings : Openings Start) (moment : ℕ) (source : SourceSeen Start) (old new : Round Start) (o : Opens moment source old new) → old.lines ≡ [] → openings old.next o.stream o.start ≡ Ok o.listed
-    → round_left moment old openings ≡ round_left moment new openings
-opened_left {Start} openings moment source old new o none told =
-    let more = lines_from openings moment (old.next + 1) (drop (old.next + 1) old.streams) (drop (old.next + 1) old.starts) in
-    ap (λ (lines : List (List ℕ)). in_front lines (left_of (lines_from openings moment old.next (drop old.next old.streams) (drop old.next old.starts)))) none
-    ∙ ap (λ (all : List (Result (List (List ℕ)) Status)). left_of all) (rest_is openings moment old o.stream o.start o.at o.from)
-    ∙ ap (λ (opening : Result Listed Status). left_of (lines_of moment o.stream.id opening ∷ more)) told
-    ∙ ap (λ (r : Round Start). round_left moment r openings) (sym o.is)
+-- where no line is left, the streams from the next on
+at_streams : {Start : Type 0} (Opens : ℕ → ConfStream → Start → Result Listed Status → Type 0) (moment : ℕ) (old : Round Start) → old.lines ≡ []
+    → Narrows (MayGiveRound Opens moment old) (MayGiveStreams Opens moment old.next (drop old.next old.streams) (drop old.next old.starts))
+at_streams Opens moment old none left may =
+    subst (λ (lines : List (List ℕ)). MayGiveLines lines (MayGiveStreams Opens moment old.next (drop old.next old.streams) (drop old.next old.starts)) left) (sym none) may
 
-opened_told : {Start : Type 0} (openings : Option (Openings Start)) (moment : ℕ) (source : SourceSeen Start) (old new : Round Start) (o : Opens moment source old new) → old.lines ≡ []
-    → IfSome (option_map (λ (all : Openings Start). all old.next o.stream o.start) openings) (λ opening. opening ≡ Ok o.listed) → option_map (round_left moment old) openings ≡ option_map (round_left moment new) openings
-opened_told None moment source old new o none told = refl
-opened_told (Some openings) moment source old new o none told = ap (λ (left : Left). Some left) (opened_left openings moment source old new o none told)
+-- the first of them is the next
+at_next : {Start : Type 0} (Opens : ℕ → ConfStream → Start → Result Listed Status → Type 0) (moment : ℕ) (old : Round Start) (stream : ConfStream) (start : Start)
+    → old.lines ≡ [] → slice_get old.streams old.next ≡ Some stream → slice_get old.starts old.next ≡ Some start
+    → Narrows (MayGiveRound Opens moment old) (MayGiveStream moment stream.id (Opens old.next stream start) (MayGiveStreams Opens moment (old.next + 1) (drop (old.next + 1) old.streams) (drop (old.next + 1) old.starts)))
+at_next {Start} Opens moment old stream start none at from left may =
+    at_streams Opens moment old none left
+    (subst (λ (streams : List ConfStream). MayGiveStreams Opens moment old.next streams (drop old.next old.starts) left) (sym (left_with old.streams old.next stream at))
+    (subst (λ (starts : List Start). MayGiveStreams Opens moment old.next (stream ∷ drop (old.next + 1) old.streams) starts left) (sym (left_with old.starts old.next start from)) may))
 
-pub opened_same : {Start : Type 0} (moment : ℕ) (source now : SourceSeen Start) (old new : Round Start) → old.lines ≡ [] → Opens moment source old new → now ≡ source → goes_on moment source old ≡ goes_on moment now new
-opened_same {Start} moment source now old new none o same =
-    ap (λ (left : Option Left). record (goes_on moment source old) { left = left }) (opened_told source.openings moment source old new o none o.told)
-    ∙ ap (λ (s : SourceSeen Start). goes_on moment s new) (sym same)
+-- a stream that was opened has the lines that may come
+pub opened_narrows : {Start : Type 0} (Old New : ℕ → ConfStream → Start → Result Listed Status → Type 0) (moment : ℕ) (old mid : Round Start) → old.lines ≡ [] → OpensAlike Old New → OpensNext Old moment old mid
+    → Narrows (MayGiveRound Old moment old) (MayGiveRound New moment mid)
+opened_narrows {Start} Old New moment old mid none alike o left may =
+    let before = round_narrow Old New moment mid alike left may in
+    at_next Old moment old o.stream o.start none o.at o.from left (Opened o.listed o.opens (subst (λ (r : Round Start). MayGiveRound Old moment r left) o.is before))
 
 -- an opened stream has a line
-pub opened_gives : {Start : Type 0} (moment : ℕ) (source : SourceSeen Start) (old mid : Round Start) (now : List (List ℕ)) → Opens moment source old mid → ¬ GivesLine None mid.lines now
-opened_gives {Start} moment source old mid now o none = no_line (listed_lines moment o.stream.id o.listed) (sym (ap (λ (r : Round Start). r.lines) o.is) ∙ none.0)
+opened_gives : {Start : Type 0} (Opens : ℕ → ConfStream → Start → Result Listed Status → Type 0) (moment : ℕ) (old mid : Round Start) (now : List (List ℕ)) → OpensNext Opens moment old mid → ¬ GivesLine None mid.lines now
+opened_gives {Start} Opens moment old mid now o none = no_line (listed_lines moment o.stream.id o.listed) (sym (ap (λ (r : Round Start). r.lines) o.is) ∙ none.0)
   where
     no_line : (lines : List (List ℕ)) → ¬ (listed_lines moment o.stream.id o.listed ≡ [])
     no_line lines same = cc
 
--- a line is the first that was left
-given_told : {Start : Type 0} (openings : Option (Openings Start)) (moment : ℕ) (mid new : Round Start) (line : List ℕ) → new ≡ record mid { lines = new.lines } → mid.lines ≡ line ∷ new.lines
-    → option_map (round_left moment mid) openings ≡ option_map (behind_line line) (option_map (round_left moment new) openings)
-given_told None moment mid new line is first = refl
-given_told {Start} (Some openings) moment mid new line is first =
-    ap (λ (left : Left). Some left) (
-    ap (λ (lines : List (List ℕ)). round_left moment (record mid { lines = lines }) openings) first
-    ∙ ap (λ (r : Round Start). behind_line line (round_left moment r openings)) (sym is))
-
-pub gives : {Start : Type 0} (moment : ℕ) (source : SourceSeen Start) (mid new : Round Start) (line : List ℕ) → new ≡ record mid { lines = new.lines } → GivesLine (Some line) mid.lines new.lines
-    → goes_on moment source mid ≡ before_line line (goes_on moment source new)
-gives moment source mid new line is first = ap (λ (left : Option Left). record (goes_on moment source mid) { left = left }) (given_told source.openings moment mid new line is first)
+-- where no stream is left, all may be over
+pub over : {Start : Type 0} (Opens : ℕ → ConfStream → Start → Result Listed Status → Type 0) (moment : ℕ) (old : Round Start) → old.lines ≡ [] → length old.streams ≤ old.next
+    → MayGiveRound Opens moment old (nothing_left status.Ok)
+over Opens moment old none all =
+    at_streams Opens moment old none (nothing_left status.Ok)
+    (subst (λ (streams : List ConfStream). MayGiveStreams Opens moment old.next streams (drop old.next old.starts) (nothing_left status.Ok)) (sym (drop_all old.next old.streams all)) (inr refl))
 
 -- a stream that is refused ends the lines
-refused_told : {Start : Type 0} (openings : Option (Openings Start)) (moment : ℕ) (why : Status) (old : Round Start) (stream : ConfStream) (start : Start) → old.lines ≡ []
-    → slice_get old.streams old.next ≡ Some stream → slice_get old.starts old.next ≡ Some start
-    → IfSome (option_map (λ (all : Openings Start). all old.next stream start) openings) (λ opening. opening ≡ Err why) → IfSome (option_map (round_left moment old) openings) (λ left. left ≡ nothing_left why)
-refused_told None moment why old stream start none at from told = tt
-refused_told {Start} (Some openings) moment why old stream start none at from told =
-    let more = lines_from openings moment (old.next + 1) (drop (old.next + 1) old.streams) (drop (old.next + 1) old.starts) in
-    ap (λ (lines : List (List ℕ)). in_front lines (left_of (lines_from openings moment old.next (drop old.next old.streams) (drop old.next old.starts)))) none
-    ∙ ap (λ (all : List (Result (List (List ℕ)) Status)). left_of all) (rest_is openings moment old stream start at from)
-    ∙ ap (λ (opening : Result Listed Status). left_of (lines_of moment stream.id opening ∷ more)) told
-
-pub not_opened : {Start : Type 0} (moment : ℕ) (source now : SourceSeen Start) (old new : Round Start) (why : Status) → old.lines ≡ [] → new ≡ old → OpensNotNext why source old → (why ≡ status.NoMemory → now ≡ source)
-    → GoesOn (Err why) (goes_on moment source old) (goes_on moment now new)
-not_opened {Start} moment source now old new why none same o stays = (
-  o.told.0,
-  λ memory. ap (λ (s : SourceSeen Start). goes_on moment s new) (stays memory) ∙ ap (goes_on moment source) same,
-  elim o.told.1 [
+pub not_opened : {Start : Type 0} (Old New : ℕ → ConfStream → Start → Result Listed Status → Type 0) (moment : ℕ) (old new : Round Start) (why : Status) → old.lines ≡ [] → new ≡ old → OpensAlike Old New → OpensNotNext Old old why
+    → Advances (Err why) (MayGiveRound Old moment old) (MayGiveRound New moment new)
+not_opened {Start} Old New moment old new why none same alike o = (
+  o.refused.0,
+  λ memory left may. round_narrow Old New moment old alike left (subst (λ (r : Round Start). MayGiveRound New moment r left) same may),
+  elim o.refused.1 [
     | inl memory ↦ inl memory
-    | inr other ↦ inr (elim other [ inl fault ↦ inl fault | inr told ↦ inr (refused_told source.openings moment why old o.stream o.start none o.at o.from told) ])
+    | inr other ↦ inr (elim other [ inl fault ↦ inl fault | inr opens ↦ inr (at_next Old moment old o.stream o.start none o.at o.from (nothing_left why) (Refused why opens refl)) ])
   ],
 )
 
 -- the answer of a stream that was opened
-pub opened_answer : {Start : Type 0} (moment : ℕ) (source now : SourceSeen Start) (old mid new : Round Start) (answer : Result (Option (List ℕ)) Status) → old.lines ≡ [] → Opens moment source old mid → now ≡ source
+pub opened_answer : {Start : Type 0} (Old New : ℕ → ConfStream → Start → Result Listed Status → Type 0) (moment : ℕ) (old mid new : Round Start) (answer : Result (Option (List ℕ)) Status) → old.lines ≡ [] → OpensAlike Old New → OpensNext Old moment old mid
     → IfOk answer (λ found. GivesLine found mid.lines new.lines) → new ≡ record mid { lines = new.lines } → IfErr answer (λ why. why ≡ status.NoMemory) → OnErr answer (new ≡ mid)
-    → GoesOn answer (goes_on moment source old) (goes_on moment now new)
-opened_answer moment source now old mid new (Ok (Some line)) none o same found is memory stays = opened_same moment source now old mid none o same ∙ gives moment now mid new line is found
-opened_answer moment source now old mid new (Ok None) none o same found is memory stays = absurd (opened_gives moment source old mid new.lines o found)
-opened_answer {Start} moment source now old mid new (Err why) none o same found is memory stays =
-    (λ ok. not_ok (sym memory ∙ ok), λ same_why. ap (goes_on moment now) stays ∙ sym (opened_same moment source now old mid none o same), inl memory)
+    → Advances answer (MayGiveRound Old moment old) (MayGiveRound New moment new)
+opened_answer Old New moment old mid new (Ok (Some line)) none alike o found is memory stays =
+    λ left may. opened_narrows Old New moment old mid none alike o (behind_line line left) (gives New moment mid new line is found left may)
+opened_answer Old New moment old mid new (Ok None) none alike o found is memory stays = absurd (opened_gives Old moment old mid new.lines o found)
+opened_answer {Start} Old New moment old mid new (Err why) none alike o found is memory stays = (
+  λ ok. not_ok (sym memory ∙ ok),
+  λ same left may. opened_narrows Old New moment old mid none alike o left (subst (λ (r : Round Start). MayGiveRound New moment r left) stays may),
+  inl memory,
+)
   where
     not_ok : ¬ (status.NoMemory ≡ status.Ok)
     not_ok same = cc
 
 -- an error as it came
-pub as_it_came : (answer : Result (Option (List ℕ)) Status) (why : Status) (old new : FeedSeen) → IsErrAnd answer (λ e. e ≡ why) → GoesOn (Err why) old new → GoesOn answer old new
-as_it_came (Ok found) why old new is goes = absurd is
-as_it_came (Err e) why old new is goes = subst (λ (w : Status). GoesOn (Err w) old new) (sym is) goes
+pub as_it_came : (answer : Result (Option (List ℕ)) Status) (why : Status) (Before After : Left → Type 0) → IsErrAnd answer (λ e. e ≡ why) → Advances (Err why) Before After → Advances answer Before After
+as_it_came (Ok found) why Before After is goes = absurd is
+as_it_came (Err e) why Before After is goes = subst (λ (w : Status). Advances (Err w) Before After) (sym is) goes
 
 -- a source of which nothing changed
-pub source_same : {Start : Type 0} (source now : SourceSeen Start) → now ≡ record source { faults = now.faults } → now.faults ≡ source.faults → now ≡ source
-source_same {Start} source now others same = others ∙ ap (λ (n : ℕ). record source { faults = n }) same
-
-pub memory_no_fault : {A : Type 0} (why : Status) → why ≡ status.NoMemory → ¬ (◌≡◌ {A = Result A Status} (Err why) (Err status.RowFault))
-memory_no_fault {A} why memory same = other (sym memory ∙ err_is why status.RowFault same)
-  where
-    err_is : (a b : Status) → ◌≡◌ {A = Result A Status} (Err a) (Err b) → a ≡ b
-    err_is a b e = cc
-
-    other : ¬ (status.NoMemory ≡ status.RowFault)
-    other e = cc
+pub source_same : (source now : SourceSeen) → now ≡ record source { faults = now.faults } → now.faults ≡ source.faults → now ≡ source
+source_same source now others same = others ∙ ap (λ (n : ℕ). record source { faults = n }) same
 
 pub ok_no_fault : {A : Type 0} (value : A) (why : Status) → ¬ (◌≡◌ {A = Result A Status} (Ok value) (Err why))
 ok_no_fault value why same = cc

@@ -6,4 +6,6 @@ pub mod Laws
 pub mod Heads
 pub mod Begins
 pub mod Sources
+pub mod Giving
+pub mod Rounds
 pub mod SourceFeeds

@@ -3,7 +3,9 @@ ghost use Rattle.std.specs.Prelude.{◌≡◌, ◌≤◌, [], Err, length, IfOk,
 ghost use Rattle.basics.specs.Told.{RoseIf};
 ghost use Rattle.outside.specs.declared.status.Status.TheVariants as status;
 ghost use Rattle.source_lines.specs.Turns.{GivesLine};
-ghost use Rattle.source_lines.specs.Sources.{GoesOn, Opens, OpensNotNext, goes_on, listed_lines};
+ghost use Rattle.source_lines.specs.Giving.{MayGiveRound, listed_lines};
+ghost use Rattle.source_lines.specs.Rounds.{Advances, OpensNext, OpensNotNext};
+ghost use Rattle.source_lines.specs.Sources.{OpensAlike};
 
 use crate::{ListedRows, OpenStream, StreamSource, StreamTurn};
 use basics::{Bytes, Copies, NoMemory, Sequence, StreamId, StreamNo};
@@ -71,7 +73,7 @@ pub struct Round<T: Drop, L: ListedRows + Drop> {
 
 impl<T: Drop, L: ListedRows + Drop> Model for Round<T, L> {
     ghost use Rattle.std.specs.Prelude.{◌≡◌, [], length, unwrap_or};
-    ghost use Rattle.source_lines.specs.Sources.{Round as RoundSeen};
+    ghost use Rattle.source_lines.specs.Giving.{Round as RoundSeen};
 
     ghost Value = { RoundSeen T };
 
@@ -81,13 +83,14 @@ impl<T: Drop, L: ListedRows + Drop> Model for Round<T, L> {
 }
 
 impl<T: Drop, L: ListedRows + Drop> Round<T, L> {
-    ghost use Rattle.std.specs.Prelude.{◌≡◌, [], length, IfOk, OnErr};
+    ghost use Rattle.std.specs.Prelude.{◌≡◌, length, IfOk, OnErr};
+    ghost use Rattle.source_lines.specs.Giving.{first_round};
     ghost use Rattle.source_lines.specs.Turns.{GivesLine};
 
     // Before the first of these streams.
     pub fn new(streams: Configured, starts: Sequence<T>) -> Self
         requires { length starts ≡ length streams }
-        ensures { result ≡ record { lines = []; next = 0; streams = streams; starts = starts } }
+        ensures { result ≡ first_round streams starts }
     {
         Round {
             streams,
@@ -118,9 +121,10 @@ fn open_next<S: StreamSource>(
     round: &mut Round<S::Start, S::Rows>,
 ) -> Result<bool, Status>
     requires { round.old.lines ≡ [] }
-    ensures opened { IfOk result (λ some. IsTrue some → Opens moment (S.seen source.old) round.old round.new) }
+    ensures opened { IfOk result (λ some. IsTrue some → OpensNext (S.Opens source.old) moment round.old round.new) }
     ensures none { IfOk result (λ some. ¬ IsTrue some → (length round.old.streams ≤ round.old.next) × (round.new ≡ round.old)) }
-    ensures refused { IfErr result (λ why. (round.new ≡ round.old) × OpensNotNext why (S.seen source.old) round.old) }
+    ensures refused { IfErr result (λ why. (round.new ≡ round.old) × OpensNotNext (S.Opens source.old) round.old why) }
+    ensures alike { OpensAlike (S.Opens source.old) (S.Opens source.new) }
     ensures faults { RoseIf (result ≡ Err status.RowFault) (S.seen source.old).faults (S.seen source.new).faults }
     ensures stays { ¬ (result ≡ Err status.RowFault) → (S.seen source.new).faults ≡ (S.seen source.old).faults }
     ensures others { S.seen source.new ≡ record (S.seen source.old) { faults = (S.seen source.new).faults } }
@@ -164,7 +168,8 @@ pub fn advance<S: StreamSource>(
     moment: u64,
     round: &mut Round<S::Start, S::Rows>,
 ) -> Result<Option<Bytes>, Status>
-    ensures goes { GoesOn result (goes_on moment (S.seen source.old) round.old) (goes_on moment (S.seen source.new) round.new) }
+    ensures goes { Advances result (MayGiveRound (S.Opens source.old) moment round.old) (MayGiveRound (S.Opens source.new) moment round.new) }
+    ensures alike { OpensAlike (S.Opens source.old) (S.Opens source.new) }
     ensures faults { RoseIf (result ≡ Err status.RowFault) (S.seen source.old).faults (S.seen source.new).faults }
     ensures stays { ¬ (result ≡ Err status.RowFault) → (S.seen source.new).faults ≡ (S.seen source.old).faults }
     ensures others { S.seen source.new ≡ record (S.seen source.old) { faults = (S.seen source.new).faults } }

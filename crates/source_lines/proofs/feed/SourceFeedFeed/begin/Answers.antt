@@ -1,66 +1,48 @@
-use Rattle.std.proofs.Common.{◌≡◌, ◌∙◌, ℕ, Result, Err, ap, subst, is_some}
-use Rattle.basics.specs.Told.{RoseIf}
+use Rattle.std.proofs.Common.{◌≡◌, Ok, Err, subst}
 use Rattle.json_fields.specs.Answer.{IsOnly}
-use Rattle.outside.specs.Feed.{FeedSeen, ended_with, nothing_left}
-use Rattle.outside.specs.declared.status.Status.{Status}
+use Rattle.outside.specs.Feed.{RefusesTexts, StartsAlike}
 use Rattle.outside.specs.declared.status.Status.TheVariants as status
 use Rattle.source_lines.specs.Begins.{BeginsAs}
-use Rattle.source_lines.specs.Sources.{Openings, Round, goes_on, round_left}
-use Rattle.source_lines.specs.SourceFeeds.{BeginsWith, SourceFeedSeen}
-use Rattle.source_lines.proofs.RoundLemmas.{ok_no_fault}
-use Rattle.source_lines.proofs.FeedLemmas.{begins_lines, err_moved, faults_rose, refused_is, rose_moved, seen_faults, told_stays}
+use Rattle.source_lines.specs.SourceFeeds.{MayBeginFrom, SourceFeedSeen}
+use Rattle.source_lines.proofs.RoundLemmas.{round_untold}
+use Rattle.source_lines.proofs.FeedLemmas.{begins_lines, err_moved, refused_by, starts_alike}
 use Rattle.source_lines.proofs.feed.SourceFeedFeed.begin.Goals as goal
 
-pub returns-in-Ok-clause-told : goal.returns-in-Ok-clause-told
-returns-in-Ok-clause-told g c =
-    let same = ap (λ (v : SourceFeedSeen g.row.S.Denot). v.feed) c.self.view_is in
-    told_stays c.self.inside.moment (g.S.StreamSource.seen c.self.inside.source) (g.S.StreamSource.seen c.begun.new.source) c.self.inside.progress (round_left c.self.inside.moment c.in-Ok.round) c.in-Ok.ensures.others
-    ∙ ap (λ (f : FeedSeen). is_some f.left) same
-
-pub returns-in-Ok-clause-stays : goal.returns-in-Ok-clause-stays
-returns-in-Ok-clause-stays g c = λ other.
-    let same = ap (λ (v : SourceFeedSeen g.row.S.Denot). v.feed) c.self.view_is in
-    c.in-Ok.ensures.stays (ok_no_fault c.in-Ok.round status.RowFault) ∙ seen_faults c.self.inside.moment (g.S.StreamSource.seen c.self.inside.source) c.self.inside.progress
-    ∙ ap (λ (f : FeedSeen). f.faults) same
-
 pub returns-in-Ok-clause-begins : goal.returns-in-Ok-clause-begins
-returns-in-Ok-clause-begins g c =
+returns-in-Ok-clause-begins g c = λ left may.
     let S = g.S.StreamSource in
-    let old = S.seen c.self.inside.source in
-    let new = S.seen c.begun.new.source in
+    subst (λ (v : SourceFeedSeen g.row.S.Denot g.row.S-Start.Denot). MayBeginFrom S.Starts (S.seen v.source) (S.Opens v.source) v.moment c.args.catalog.now c.args.states.now (Ok left)) c.self.view_is
+    (begins_lines (BeginsAs S.Starts (S.seen c.self.inside.source).is_known c.args.catalog.now c.args.states.now) (S.Opens c.self.inside.source) (S.Opens c.begun.new.source) c.self.inside.moment c.in-Ok.round c.in-Ok.ensures.read c.in-Ok.ensures.first c.in-Ok.ensures.alike left may)
+
+pub returns-in-Ok-clause-open : goal.returns-in-Ok-clause-open
+returns-in-Ok-clause-open g c = round_untold (g.S.StreamSource.Opens c.begun.new.source) c.self.inside.moment c.in-Ok.round
+
+pub returns-in-Ok-clause-starts : goal.returns-in-Ok-clause-starts
+returns-in-Ok-clause-starts g c =
+    let S = g.S.StreamSource in
     let moment = c.self.inside.moment in
-    let round = c.in-Ok.round in
-    let before = c.in-Ok.ensures.before in
-    subst (λ (v : SourceFeedSeen g.row.S.Denot). BeginsWith S.Starts (S.seen v.source) c.args.catalog.now c.args.states.now v.moment (goes_on moment new round).left) c.self.view_is
-    (record { streams = round.streams; starts = round.starts; read = c.in-Ok.ensures.read; lines = begins_lines moment old new round c.in-Ok.ensures.others before.0 before.1 })
+    subst (λ (v : SourceFeedSeen g.row.S.Denot g.row.S-Start.Denot). StartsAlike (MayBeginFrom S.Starts (S.seen v.source) (S.Opens v.source) v.moment) (MayBeginFrom S.Starts (S.seen c.begun.new.source) (S.Opens c.begun.new.source) moment)) c.self.view_is
+    (starts_alike S.Starts (S.seen c.self.inside.source) (S.seen c.begun.new.source) (S.Opens c.self.inside.source) (S.Opens c.begun.new.source) moment c.in-Ok.ensures.others c.in-Ok.ensures.alike)
+
+pub returns-in-Err-clause-causes : goal.returns-in-Err-clause-causes
+returns-in-Err-clause-causes g c =
+    let S = g.S.StreamSource in
+    subst (λ (v : SourceFeedSeen g.row.S.Denot g.row.S-Start.Denot). RefusesTexts (MayBeginFrom S.Starts (S.seen v.source) (S.Opens v.source) v.moment) c.args.catalog.now c.args.states.now c.in-Err.why) c.self.view_is
+    (refused_by (BeginsAs S.Starts (S.seen c.self.inside.source).is_known) (S.Opens c.self.inside.source) c.self.inside.moment c.args.catalog.now c.args.states.now c.in-Err.why c.in-Err.ensures.refused)
+
+pub returns-in-Err-clause-starts : goal.returns-in-Err-clause-starts
+returns-in-Err-clause-starts g c =
+    let S = g.S.StreamSource in
+    let moment = c.self.inside.moment in
+    subst (λ (v : SourceFeedSeen g.row.S.Denot g.row.S-Start.Denot). StartsAlike (MayBeginFrom S.Starts (S.seen v.source) (S.Opens v.source) v.moment) (MayBeginFrom S.Starts (S.seen c.begun.new.source) (S.Opens c.begun.new.source) moment)) c.self.view_is
+    (starts_alike S.Starts (S.seen c.self.inside.source) (S.seen c.begun.new.source) (S.Opens c.self.inside.source) (S.Opens c.begun.new.source) moment c.in-Err.ensures.others c.in-Err.ensures.alike)
 
 pub returns-in-Err-clause-by_texts : goal.returns-in-Err-clause-by_texts
 returns-in-Err-clause-by_texts g c = λ memory fault.
     let S = g.S.StreamSource in
-    subst (λ (v : SourceFeedSeen g.row.S.Denot). IsOnly (BeginsAs S.Starts (S.seen v.source).is_known c.args.catalog.now c.args.states.now) (Err c.in-Err.why)) c.self.view_is (c.in-Err.ensures.refused memory fault)
-
-pub returns-in-Err-clause-refused : goal.returns-in-Err-clause-refused
-returns-in-Err-clause-refused g c =
-    let same = ap (λ (v : SourceFeedSeen g.row.S.Denot). v.feed) c.self.view_is in
-    let now = (g.S.StreamSource.seen c.begun.new.source).faults in
-    refused_is c.self.inside.moment (g.S.StreamSource.seen c.self.inside.source) (g.S.StreamSource.seen c.begun.new.source) c.self.inside.progress c.in-Err.why c.in-Err.ensures.others
-    ∙ ap (λ (f : FeedSeen). record (ended_with c.in-Err.why f) { faults = now }) same
-
-pub returns-in-Err-clause-told : goal.returns-in-Err-clause-told
-returns-in-Err-clause-told g c =
-    let same = ap (λ (v : SourceFeedSeen g.row.S.Denot). v.feed) c.self.view_is in
-    told_stays c.self.inside.moment (g.S.StreamSource.seen c.self.inside.source) (g.S.StreamSource.seen c.begun.new.source) c.self.inside.progress (λ (o : Openings g.row.S-Start.Denot). nothing_left c.in-Err.why) c.in-Err.ensures.others
-    ∙ ap (λ (f : FeedSeen). is_some f.left) same
-
-pub returns-in-Err-clause-faults : goal.returns-in-Err-clause-faults
-returns-in-Err-clause-faults g c =
-    let same = ap (λ (v : SourceFeedSeen g.row.S.Denot). v.feed.faults) c.self.view_is in
-    let now = (g.S.StreamSource.seen c.begun.new.source).faults in
-    let rose = faults_rose c.self.inside.moment (g.S.StreamSource.seen c.self.inside.source) c.self.inside.progress (◌≡◌ {A = Result (Round g.row.S-Start.Denot) Status} (Err c.in-Err.why) (Err status.RowFault)) now c.in-Err.ensures.faults in
-    rose_moved c.args.self.now.feed.faults now (λ happened. err_moved c.in-Err.why status.RowFault happened)
-    (subst (λ (n : ℕ). RoseIf (◌≡◌ {A = Result (Round g.row.S-Start.Denot) Status} (Err c.in-Err.why) (Err status.RowFault)) n now) same rose)
+    subst (λ (v : SourceFeedSeen g.row.S.Denot g.row.S-Start.Denot). IsOnly (BeginsAs S.Starts (S.seen v.source).is_known c.args.catalog.now c.args.states.now) (Err c.in-Err.why)) c.self.view_is (c.in-Err.ensures.refused memory fault)
 
 pub returns-in-Err-clause-stays : goal.returns-in-Err-clause-stays
 returns-in-Err-clause-stays g c = λ other.
-    let same = ap (λ (v : SourceFeedSeen g.row.S.Denot). v.feed.faults) c.self.view_is in
-    c.in-Err.ensures.stays (λ happened. other (err_moved c.in-Err.why status.RowFault happened)) ∙ seen_faults c.self.inside.moment (g.S.StreamSource.seen c.self.inside.source) c.self.inside.progress ∙ same
+    let S = g.S.StreamSource in
+    subst (λ (v : SourceFeedSeen g.row.S.Denot g.row.S-Start.Denot). (S.seen c.begun.new.source).faults ≡ (S.seen v.source).faults) c.self.view_is (c.in-Err.ensures.stays (λ happened. other (err_moved c.in-Err.why status.RowFault happened)))
