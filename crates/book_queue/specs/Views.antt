@@ -1,5 +1,5 @@
 -- How a queue keeps its records: in a pool, beside counts for each stream and the batches that are handed out.
-use Rattle.std.specs.Prelude.{◌≡◌, ◌≢◌, ℕ, ◌+◌, ◌-◌, ◌<◌, ◌≤◌, ◌==◌, ◌^◌, List, [], ◌∷◌, ◌++◌, map, length, Bool, true, false, ◌&&◌, nat_lt, if◌then◌else◌, Option, None, Some, slice_index_or}
+use Rattle.std.specs.Prelude.{◌≡◌, ◌≢◌, ℕ, ◌+◌, ◌-◌, ◌<◌, ◌≤◌, ◌==◌, ◌^◌, List, [], ◌∷◌, ◌++◌, map, length, Bool, true, false, ◌&&◌, nat_lt, if◌then◌else◌, Option, None, Some, slice_index_or, slice_set, unwrap_or}
 use Rattle.std.specs.List.{AllByRecursion, list_any}
 use Rattle.buffer_pool.specs.declared.slot.Slot.{Slot}
 use Rattle.buffer_pool.specs.Content.{PoolView, first_of, is_in_chain, is_queued_of}
@@ -13,6 +13,33 @@ no_lane = record { queued = 0; sealed = 0; front = None; behind = 0 }
 
 abbrev pub lane_at : List Lane → ℕ → Lane
 lane_at lanes stream = slice_index_or lanes stream no_lane
+
+abbrev pub changed : ℕ → (Lane → Lane) → List Lane → List Lane
+changed stream change lanes = slice_set lanes stream (change (lane_at lanes stream))
+
+-- a record more, which is not sealed
+abbrev pub grown : ℕ → Lane → Lane
+grown seq lane = record lane { queued = lane.queued + 1; front = Some (unwrap_or lane.front seq) }
+
+-- all records are sealed, which are below this sequence
+abbrev pub sealed_to : ℕ → Lane → Lane
+sealed_to next lane = record lane { sealed = lane.queued; behind = next }
+
+-- without so many of its sealed records, and with so many more
+abbrev pub shrunk : ℕ → Option ℕ → Lane → Lane
+shrunk count front lane = record lane { queued = lane.queued - count; sealed = lane.sealed - count; front = front }
+
+abbrev pub refilled : ℕ → Option ℕ → Lane → Lane
+refilled count front lane = record lane { queued = lane.queued + count; sealed = lane.sealed + count; front = front }
+
+abbrev pub front_of : Lane → ℕ
+front_of lane = unwrap_or lane.front 0
+
+-- of the lanes below this one, the one whose first sealed record is oldest
+abbrev pub IsOldestBelow : List Lane → ℕ → Option ℕ → Type 0
+IsOldestBelow lanes high None = (stream : ℕ) → stream < high → (lane_at lanes stream).sealed ≡ 0
+IsOldestBelow lanes high (Some found) =
+    (found < high) × (1 ≤ (lane_at lanes found).sealed) × ((stream : ℕ) → stream < high → 1 ≤ (lane_at lanes stream).sealed → front_of (lane_at lanes found) ≤ front_of (lane_at lanes stream))
 
 -- the number of the batch with this chain
 abbrev pub number_in : List Batch → ℕ → ℕ
@@ -87,6 +114,14 @@ pub record BatchFits (held : List Slot) (streams next next_batch : ℕ) (batch :
 abbrev pub AreApart : List Batch → Type 0
 AreApart [] = Unit {0}
 AreApart (batch ∷ more) = AllByRecursion (λ other. (batch.number < other.number) × (batch.chain ≢ other.chain)) more × AreApart more
+
+-- a batch was taken out
+pub record IsTakenOut (number : ℕ) (old new : List Batch) (batch : Batch) : Type 0 where
+  pub front : List Batch
+  pub rest : List Batch
+  pub splits : old ≡ front ++ batch ∷ rest
+  pub left : new ≡ front ++ rest
+  pub numbered : batch.number ≡ number
 
 -- the parked record may be pushed
 abbrev pub MayCome : ℕ → ℕ → Option Parked → Type 0
