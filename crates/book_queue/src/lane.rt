@@ -1,5 +1,5 @@
 // What is known of the streams' queues without a walk through the pool.
-ghost use Rattle.std.specs.Prelude.{◌≡◌, ◌+◌, ◌<◌, ◌≤◌, ◌^◌, length, map};
+ghost use Rattle.std.specs.Prelude.{◌≡◌, ◌+◌, ◌-◌, ◌<◌, ◌≤◌, ◌^◌, length, map};
 ghost use Rattle.book_queue.specs.Views.{IsOldestBelow, changed, grown, lane_at, refilled, sealed_to, shrunk};
 
 use basics::StreamNo;
@@ -37,13 +37,19 @@ pub fn seal(lanes: &mut Vec<Lane>, stream: StreamNo, next: u64)
     lane.behind = next;
 }
 
+fn seal_lane(lane: &mut Lane, next: u64)
+    ensures { lane.new ≡ sealed_to next lane.old }
+{
+    lane.sealed = lane.queued;
+    lane.behind = next;
+}
+
 /// All queues are sealed.
 pub fn seal_all(lanes: &mut Vec<Lane>, next: u64)
     ensures { lanes.new.items ≡ map (sealed_to next) lanes.old.items }
 {
-    for lane in lanes.iter_mut() {
-        lane.sealed = lane.queued;
-        lane.behind = next;
+    for index in 0..lanes.len() {
+        seal_lane(&mut lanes[index], next);
     }
 }
 

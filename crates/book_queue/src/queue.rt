@@ -1,5 +1,5 @@
 // The queue of a load.
-ghost use Rattle.std.specs.Prelude.{◌≡◌, ℕ, ◌+◌, ◌<◌, ◌≤◌, ◌^◌, ◌↔◌, [], ◌∷◌, ◌++◌, filter, find, length, not, true, false, None, Some, IfErr, IfNone, IfOk, IfSome, IsSome, IsTrue, OnErr, OnOk, replicate};
+ghost use Rattle.std.specs.Prelude.{◌≡◌, ℕ, ◌+◌, ◌-◌, ◌<◌, ◌≤◌, ◌^◌, ◌↔◌, [], ◌∷◌, ◌++◌, filter, find, length, not, true, false, None, Some, IfErr, IfNone, IfOk, IfSome, IsSome, IsTrue, OnErr, OnOk, replicate};
 ghost use Rattle.std.specs.List.{AllByRecursion, list_any};
 ghost use Rattle.buffer_pool.specs.Content.{chain_of, first_of, is_in_chain, with_front_detached, with_restored};
 ghost use Rattle.book_queue.specs.Views.{changed, lane_at, no_lane, refilled};
