@@ -6,3 +6,4 @@ pub mod Kept
 pub mod Places
 pub mod Ready
 pub mod Standing
+pub mod Seen
