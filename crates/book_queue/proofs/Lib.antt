@@ -7,3 +7,5 @@ pub mod Places
 pub mod Ready
 pub mod Standing
 pub mod Seen
+pub mod Handing
+pub mod Pushing

@@ -141,3 +141,4 @@ pub record IsKept (pool : PoolView) (lanes : List Lane) (out : List Batch) (park
   pub are : AreKept pool.held pool.streams pool.next lanes out next_batch
   pub may_come : MayCome pool.streams pool.next parked
   pub some : 1 ≤ batch
+  pub counted : pool.slots < 2 ^ 32

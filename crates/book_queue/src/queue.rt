@@ -196,6 +196,16 @@ impl BookQueue {
         Some(last.number)
     }
 
+    /// A sequence above those of all records that ever came.
+    pub fn next(&self) -> u64
+        ensures { result ≡ self.now.next }
+    {
+        match &self.parked {
+            Some(parked) => parked.seq + 1,
+            None => self.pool.next(),
+        }
+    }
+
     /// Whether a record is parked.
     pub fn is_parked(&self) -> bool
         ensures { IsTrue result ↔ IsSome self.now.parked }
@@ -264,8 +274,11 @@ impl BookQueue {
         ensures err { OnErr result (self.new ≡ self.old) }
     {
         let number = self.next_batch;
-        let next_batch = number.checked_add(1).ok_or(NoMemory)?;
+        if number == u64::MAX {
+            return Err(NoMemory);
+        }
         self.out.reserve(1)?;
+        self.pool.stands();
         let count = self.lanes[stream as usize].sealed.min(self.batch);
         let (chain, lines) = detach(&mut self.pool, alloc, stream, count)?;
         let front = self.pool.front(stream);
@@ -276,7 +289,7 @@ impl BookQueue {
             count,
             chain,
         });
-        self.next_batch = next_batch;
+        self.next_batch = number + 1;
         Ok(Handed { number, lines })
     }
 
@@ -334,6 +347,7 @@ impl BookQueue {
     {
         match take_out(&mut self.out, number) {
             Some(batch) => {
+                self.pool.stands();
                 put_back(&mut self.pool, &mut self.lanes, batch);
                 true
             }
@@ -361,7 +375,7 @@ impl BookQueue {
     pub fn has_out(&self) -> bool
         ensures { result ≡ list_any is_handed_out self.now.held }
     {
-        !self.out.is_empty()
+        self.last_out().is_some()
     }
 
     /// What is so of every queue.

@@ -13,6 +13,7 @@ invariant_of-self c =
       are = rw c.seal.ensures (rw c.next-next.ensures (sealed_kept c.self.inside.pool.held c.self.inside.pool.streams c.self.inside.pool.next c.self.inside.lanes.items c.self.inside.out.items c.self.inside.next_batch c.args.stream c.self.invariant.are below));
       may_come = c.self.invariant.may_come;
       some = c.self.invariant.some;
+      counted = c.self.invariant.counted;
     }
 
 pub returns : goal.returns

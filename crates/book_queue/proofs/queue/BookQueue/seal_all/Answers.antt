@@ -9,6 +9,7 @@ invariant_of-self c = record {
   are = rw c.seal_all.ensures (rw c.next-next.ensures (all_sealed_kept c.self.inside.pool.held c.self.inside.pool.streams c.self.inside.pool.next c.self.inside.lanes.items c.self.inside.out.items c.self.inside.next_batch c.self.invariant.are));
   may_come = c.self.invariant.may_come;
   some = c.self.invariant.some;
+  counted = c.self.invariant.counted;
 }
 
 pub returns : goal.returns
