@@ -227,7 +227,7 @@ ok_as P Q (Ok value) is step = step value is
 ok_as P Q (Err error) is step = tt
 
 -- some record is handed out where one is in a batch
-in_batch_out : (number : ℕ) (place : Place) → is_out number place ≡ true → not (is_queued place) ≡ true
+pub in_batch_out : (number : ℕ) (place : Place) → is_out number place ≡ true → not (is_queued place) ≡ true
 in_batch_out number Queued is = absurd (false≢true is)
 in_batch_out number Sealed is = absurd (false≢true is)
 in_batch_out number (Out own) is = refl

@@ -9,3 +9,4 @@ pub mod Standing
 pub mod Seen
 pub mod Handing
 pub mod Pushing
+pub mod Recalling

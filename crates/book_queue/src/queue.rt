@@ -155,7 +155,6 @@ impl BookQueue {
         let Parked { seq, stream, line } = came;
         match self.pool.push(stream, seq, line) {
             Ok(()) => {
-                self.pool.stands();
                 grow(&mut self.lanes, stream, seq);
                 self.seal_full(stream);
                 true

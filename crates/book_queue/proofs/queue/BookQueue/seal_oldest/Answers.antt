@@ -10,4 +10,4 @@ pub returns-in-Some : goal.returns-in-Some
 returns-in-Some c = c.seal.ensures ∙ ap (λ held. record c.args.self.now { held = held }) (subst (λ view. sealed_for (Some c.in-Some.stream) view.held ≡ sealed_oldest view.held) c.self.view_is (oldest_sealed_is c.self.inside.lanes.items c.self.inside.out.items (Some c.in-Some.stream) c.self.inside.pool.held c.in-Some.ensures))
 
 pub returns-in_default : goal.returns-in_default
-returns-in_default c = ?
+returns-in_default c = ap (λ held. record c.args.self.now { held = held }) (subst (λ view. sealed_for None view.held ≡ sealed_oldest view.held) c.self.view_is (oldest_sealed_is c.self.inside.lanes.items c.self.inside.out.items None c.self.inside.pool.held c.in_default.ensures))
