@@ -301,9 +301,9 @@ slot_without lanes others front rest batch next slot same long misses fits = rec
 pub slots_of : (held : List Slot) (streams next : ℕ) (lanes : List Lane) (front rest : List Batch) (batch : Batch) (next_batch : ℕ) → AreKept held streams next lanes (front ++ batch ∷ rest) next_batch → AllByRecursion (λ slot. is_in_chain batch.chain slot ≡ true → (slot.stream ≡ batch.stream) × (slot.seq < (lane_at lanes batch.stream).behind)) held
 slots_of held streams next lanes front rest batch next_batch kept = all_as (SlotFits lanes (front ++ batch ∷ rest) next) (λ slot. is_in_chain batch.chain slot ≡ true → (slot.stream ≡ batch.stream) × (slot.seq < (lane_at lanes batch.stream).behind)) held
     (λ slot fits is.
-      let chained = subst (ChainFits (lane_at lanes slot.stream).behind (front ++ batch ∷ rest) slot.stream slot.seq) (chain_own batch.chain slot is) fits.chained
-      in let own = sym (all_middle (λ other. other.chain ≡ batch.chain → other.stream ≡ slot.stream) front rest batch chained.2 refl)
-      in (own, subst (λ number. slot.seq < (lane_at lanes number).behind) own chained.0)) kept.slots_fit
+    let chained = subst (ChainFits (lane_at lanes slot.stream).behind (front ++ batch ∷ rest) slot.stream slot.seq) (chain_own batch.chain slot is) fits.chained
+    in let own = sym (all_middle (λ other. other.chain ≡ batch.chain → other.stream ≡ slot.stream) front rest batch chained.2 refl)
+    in (own, subst (λ number. slot.seq < (lane_at lanes number).behind) own chained.0)) kept.slots_fit
 
 slot_released : (lanes others : List Lane) (front rest : List Batch) (batch : Batch) (next : ℕ) (slot : Slot) → SameBehind lanes others → length others ≡ length lanes → AllByRecursion (λ other. other.chain ≢ batch.chain) (front ++ rest) → (is_in_chain batch.chain slot ≡ true) ⊎ (is_in_chain batch.chain slot ≡ false) → SlotFits lanes (front ++ batch ∷ rest) next slot → SlotFits others (front ++ rest) next (released batch.chain slot)
 slot_released lanes others front rest batch next slot same long apart (inr misses) fits = subst (SlotFits others (front ++ rest) next) (sym (restored_out batch.chain slot misses)) (slot_without lanes others front rest batch next slot same long misses fits)

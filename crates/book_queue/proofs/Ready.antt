@@ -173,9 +173,9 @@ ready_some held streams next lanes out next_batch found kept rise below some lea
     there : list_any (is_front found front t) held ≡ true
     there = any_found found front t held (has_first found below some_sealed) (all_of_all (λ slot. is_queued_slot found slot ≡ true → slot.seq ≡ front → t slot ≡ true) held
         (λ slot queued same.
-          let of_own : slot.stream ≡ found = queued_of_stream found slot queued
-          in let is_below : nat_lt slot.seq (lane_at lanes found).behind ≡ true = let less = front_below in grind (arith, same, less)
-          in ready_slot lanes out slot ∙ subst (λ number. is_sealed_below (lane_at lanes number).behind number slot ≡ true) (sym of_own) (rw queued is_below)))
+        let of_own : slot.stream ≡ found = queued_of_stream found slot queued
+        in let is_below : nat_lt slot.seq (lane_at lanes found).behind ≡ true = let less = front_below in grind (arith, same, less)
+        in ready_slot lanes out slot ∙ subst (λ number. is_sealed_below (lane_at lanes number).behind number slot ≡ true) (sym of_own) (rw queued is_below)))
 
 pub ready_is : (held : List Slot) (streams next : ℕ) (lanes : List Lane) (out : List Batch) (next_batch : ℕ) (result : Option ℕ) → AreKept held streams next lanes out next_batch → RiseFrom 0 held → IsOldestBelow lanes streams result → result ≡ ready_of (map (held_of lanes out) held)
 ready_is held streams next lanes out next_batch None kept rise oldest = ready_none held streams next lanes out next_batch kept oldest

@@ -90,9 +90,7 @@ fn older(lanes: &[Lane], found: Option<StreamNo>, stream: StreamNo) -> Option<St
         return found;
     }
     match found {
-        Some(before)
-            if lanes[before as usize].front.unwrap_or(0) <= lane.front.unwrap_or(0) =>
-        {
+        Some(before) if lanes[before as usize].front.unwrap_or(0) <= lane.front.unwrap_or(0) => {
             found
         }
         _ => Some(stream),

@@ -66,7 +66,7 @@ fn detach(
     ensures err { OnErr result (pool.new ≡ pool.old) }
 {
     let Some(chain) = pool.detach(stream, count) else {
-        return Err(NoMemory);
+        unreachable!();
     };
     match pool.copy(alloc, &chain) {
         Ok(lines) => Ok((chain, lines)),
