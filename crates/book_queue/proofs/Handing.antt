@@ -1,11 +1,9 @@
 -- Batches that are handed out, put back and let go, as contracts see it.
-use Rattle.std.proofs.Common.{arith, ◌≡◌, ◌≢◌, ℕ, zero, suc, ◌+◌, ◌-◌, ◌<◌, ◌≤◌, ◌==◌, ◌^◌, List, [], ◌∷◌, ◌++◌, map, filter, find, length, take, drop, min, Bool, true, false, not, ◌&&◌, ◌||◌, nat_lt, refl, sym, ◌∙◌, ap, subst, inl, inr, ◌⊎◌, Option, None, Some, IfSome, IsSome, slice_index_or, slice_set, Result, Ok, Err, IfOk}
-use Rattle.std.specs.Prelude.{if◌then◌else◌}
+use Rattle.std.proofs.Common.{arith, ◌≡◌, ℕ, suc, ◌+◌, ◌<◌, ◌≤◌, ◌==◌, ◌^◌, List, [], ◌∷◌, ◌++◌, map, filter, length, take, drop, min, Bool, true, false, not, ◌||◌, nat_lt, refl, sym, ◌∙◌, ap, subst, inl, inr, ◌⊎◌, Option, None, Some, IfSome, IsSome, slice_index_or, slice_set, Result, Ok, Err, IfOk}
 use Rattle.std.specs.List.{AllByRecursion, list_any}
 use Rattle.std.proofs.Math.Seq.{split_at}
-use Rattle.std.proofs.lemmas.Bool.{cases_Bool, cases_eq, cases_lt, false≢true}
+use Rattle.std.proofs.lemmas.Bool.{cases_Bool, cases_lt, false≢true}
 use Rattle.std.proofs.lemmas.List.{get_or_read, length-map}
-use Rattle.std.proofs.lemmas.Option.{none-some}
 use Rattle.outside.specs.declared.line.SeqLine.{SeqLine}
 use Rattle.buffer_pool.specs.declared.slot.Slot.{Slot}
 use Rattle.buffer_pool.specs.Content.{PoolView, RiseFrom, chain_of, detached_for, first_of, in_chain, is_free, is_in_chain, with_chain, with_front_detached, with_restored, without_chain}
@@ -13,16 +11,16 @@ use Rattle.buffer_pool.specs.Content.{is_queued_of as is_queued_slot, line_of as
 use Rattle.book_queue.specs.declared.lane.Lane.{Lane}
 use Rattle.book_queue.specs.declared.batch.Batch.{Batch}
 use Rattle.book_queue.specs.declared.batch.Parked.{Parked}
-use Rattle.book_queue.specs.Content.{Held, Place, Queued, Sealed, Out, HandsOut, QueueView, batch_of, is_handed_out, is_in_batch, is_out, is_queued, is_sealed_of, move, move_first, put_in, ready_of}
-use Rattle.book_queue.specs.Views.{AreKept, BatchFits, ChainFits, IsKept, IsTakenOut, SlotFits, changed, count_if, held_of, is_sealed_below, lane_at, no_lane, parked_of, refilled, shrunk, view_of}
-use Rattle.book_queue.proofs.Lists.{all_as, all_map, all_middle, and_first, any_map, any_none, count_apart, count_fewer, count_length, none_any}
+use Rattle.book_queue.specs.Content.{Held, Place, Queued, Sealed, Out, HandsOut, batch_of, is_handed_out, is_in_batch, is_out, is_queued, is_sealed_of, move, move_first, put_in, ready_of}
+use Rattle.book_queue.specs.Views.{AreKept, BatchFits, ChainFits, IsKept, IsTakenOut, SlotFits, changed, count_if, held_of, is_sealed_below, lane_at, no_lane, refilled, shrunk, view_of}
+use Rattle.book_queue.proofs.Lists.{all_as, all_map, all_middle, and_first, count_apart, count_fewer, count_length, none_any}
 use Rattle.book_queue.proofs.Lanes.{SameBehind, behind_same}
 use Rattle.book_queue.proofs.Kept.{freed_kept, front_apart, handed_kept, restored_kept}
 use Rattle.book_queue.proofs.Numbers.{number_own}
 use Rattle.book_queue.proofs.Places.{batch_lines, count_sealed, freed_view, handed_view, held_queued, held_sealed_of, in_batch, in_no_batch, move_all, none_leaves, none_lines, none_moves, places_push, restored_view}
 use Rattle.book_queue.proofs.Ready.{ready_has, some_first}
 use Rattle.book_queue.proofs.Slots.{chain_count, queued_not_in}
-use Rattle.book_queue.proofs.Standing.{StandsAmong, any_splits, batch_stands, of_batch, seen_as}
+use Rattle.book_queue.proofs.Standing.{StandsAmong, of_batch, seen_as}
 
 -- A batch is handed out
 

@@ -1,20 +1,19 @@
 -- What a queue keeps, through each change.
-use Rattle.std.proofs.Common.{arith, ◌≡◌, ◌≢◌, ℕ, zero, suc, ◌+◌, ◌-◌, ◌<◌, ◌≤◌, ◌==◌, List, [], ◌∷◌, ◌++◌, map, filter, find, length, Bool, true, false, not, ◌&&◌, nat_lt, refl, sym, ◌∙◌, ap, subst, inl, inr, ◌⊎◌, Option, None, Some, option_map, unwrap_or, slice_set}
-use Rattle.std.specs.Prelude.{if◌then◌else◌}
-use Rattle.std.specs.List.{AllByRecursion, list_any}
-use Rattle.std.proofs.lemmas.Bool.{cases_Bool, cases_eq, cases_lt, false≢true}
+use Rattle.std.proofs.Common.{arith, ◌≡◌, ◌≢◌, ℕ, ◌+◌, ◌<◌, ◌≤◌, ◌==◌, List, [], ◌∷◌, ◌++◌, map, filter, length, Bool, true, false, not, ◌&&◌, nat_lt, refl, sym, ◌∙◌, ap, subst, inl, inr, ◌⊎◌, Option, None, Some, unwrap_or, slice_set}
+use Rattle.std.specs.List.{AllByRecursion}
+use Rattle.std.proofs.lemmas.Bool.{cases_Bool, cases_eq, false≢true}
 use Rattle.std.proofs.lemmas.List.{length-set, length-map}
 use Rattle.std.proofs.lemmas.Option.{none-some}
 use Rattle.buffer_pool.specs.declared.slot.Slot.{Slot}
-use Rattle.buffer_pool.specs.Content.{RiseFrom, first_of, in_chain, is_free, is_in_chain, is_of_chain, released, with_chain, with_restored, without_chain}
+use Rattle.buffer_pool.specs.Content.{RiseFrom, first_of, in_chain, is_in_chain, is_of_chain, released, with_chain, with_restored, without_chain}
 use Rattle.buffer_pool.specs.Content.{is_queued_of as is_queued_slot, queued as queued_slot}
 use Rattle.book_queue.specs.declared.lane.Lane.{Lane}
 use Rattle.book_queue.specs.declared.batch.Batch.{Batch}
-use Rattle.book_queue.specs.Views.{AreApart, AreKept, BatchFits, ChainFits, LaneFits, SlotFits, changed, count_if, grown, is_sealed_below, lane_at, number_in, refilled, sealed_to, shrunk}
-use Rattle.book_queue.proofs.Lists.{all_as, all_both, all_filter, all_middle, all_push, all_without, and_false, any_front, any_middle, any_without, any_none, none_any, count_as, count_filter, count_length, count_push}
+use Rattle.book_queue.specs.Views.{AreKept, BatchFits, ChainFits, LaneFits, SlotFits, changed, count_if, grown, is_sealed_below, lane_at, refilled, sealed_to, shrunk}
+use Rattle.book_queue.proofs.Lists.{all_as, all_both, all_filter, all_middle, all_push, all_without, any_front, any_middle, any_without, none_any, count_filter, count_length, count_push}
 use Rattle.book_queue.proofs.Lanes.{SameBehind, behind_same, lane_other, lane_same, lane_sealed, lanes_after}
-use Rattle.book_queue.proofs.Numbers.{apart_false, apart_without, false_apart, others_apart, push_apart, same_true, true_same}
-use Rattle.book_queue.proofs.Slots.{back_again, chain_all, chain_count, chain_counts, chain_not_queued, chain_others, chain_own, chain_queues, first_has, freed_queues, queue_in, queued_of_chain, queued_of_stream, restored_all, restored_counts, restored_in, restored_others, restored_out, restored_queues}
+use Rattle.book_queue.proofs.Numbers.{apart_false, apart_without, false_apart, others_apart, push_apart, same_true}
+use Rattle.book_queue.proofs.Slots.{chain_all, chain_count, chain_counts, chain_others, chain_own, chain_queues, first_has, freed_queues, queue_in, queued_of_chain, queued_of_stream, restored_all, restored_counts, restored_in, restored_others, restored_out, restored_queues}
 
 -- A lane whose queue is as it was
 

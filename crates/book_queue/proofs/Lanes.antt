@@ -1,9 +1,9 @@
 -- The lanes of streams, when one of them changes.
-use Rattle.std.proofs.Common.{arith, ◌≡◌, ◌≢◌, ℕ, ◌+◌, ◌<◌, ◌≤◌, List, [], ◌∷◌, map, length, get_or, set, refl, sym, ◌∙◌, ap, subst, inl, inr, ◌⊎◌, slice_index_or, slice_set}
+use Rattle.std.proofs.Common.{◌≡◌, ◌≢◌, ℕ, ◌<◌, List, map, length, sym, ◌∙◌, ap, subst, inl, inr, ◌⊎◌, slice_set}
 use Rattle.std.proofs.lemmas.Bool.{cases_eq}
 use Rattle.std.proofs.lemmas.List.{get_or-set_same, get_or-set_other, get_or-map}
 use Rattle.book_queue.specs.declared.lane.Lane.{Lane}
-use Rattle.book_queue.specs.Views.{changed, lane_at, no_lane, sealed_to}
+use Rattle.book_queue.specs.Views.{lane_at, no_lane, sealed_to}
 
 pub lane_same : (lanes : List Lane) (stream : ℕ) (lane : Lane) → stream < length lanes → lane_at (slice_set lanes stream lane) stream ≡ lane
 lane_same lanes stream lane within = get_or-set_same lanes stream lane no_lane within

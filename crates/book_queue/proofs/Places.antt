@@ -1,20 +1,19 @@
 -- The places of records, as contracts see them, through each change.
-use Rattle.std.proofs.Common.{arith, ◌≡◌, ◌≢◌, ℕ, zero, suc, ◌+◌, ◌-◌, ◌<◌, ◌≤◌, ◌==◌, List, [], ◌∷◌, ◌++◌, map, filter, find, length, min, take, Bool, true, false, not, ◌&&◌, nat_lt, refl, sym, ◌∙◌, ap, subst, inl, inr, ◌⊎◌, Option, None, Some, option_map, unwrap_or, slice_set}
+use Rattle.std.proofs.Common.{arith, ◌≡◌, ℕ, suc, ◌-◌, ◌<◌, ◌≤◌, ◌==◌, List, [], ◌∷◌, ◌++◌, map, filter, find, length, Bool, true, false, not, ◌&&◌, nat_lt, refl, sym, ◌∙◌, ap, subst, inl, inr, ◌⊎◌, Option, None, Some, option_map}
 use Rattle.std.specs.Prelude.{if◌then◌else◌}
 use Rattle.std.specs.List.{AllByRecursion, list_any}
-use Rattle.std.proofs.lemmas.Bool.{cases_Bool, cases_eq, cases_lt, false≢true}
-use Rattle.outside.specs.declared.line.SeqLine.{SeqLine}
+use Rattle.std.proofs.lemmas.Bool.{cases_Bool, cases_eq, false≢true}
 use Rattle.buffer_pool.specs.declared.slot.Slot.{Slot}
-use Rattle.buffer_pool.specs.Content.{RiseFrom, chain_of, first_of, in_chain, is_free, is_in_chain, is_of_chain, released, with_chain, with_restored, without_chain}
+use Rattle.buffer_pool.specs.Content.{RiseFrom, chain_of, in_chain, is_free, is_in_chain, is_of_chain, released, with_chain, with_restored, without_chain}
 use Rattle.buffer_pool.specs.Content.{is_queued as is_queued_free, is_queued_of as is_queued_slot, queued as queued_slot, line_of as line_of_slot, oldest_of as oldest_slot}
 use Rattle.book_queue.specs.declared.lane.Lane.{Lane}
 use Rattle.book_queue.specs.declared.batch.Batch.{Batch}
-use Rattle.book_queue.specs.Content.{Held, Place, Queued, Sealed, Out, batch_of, count_of, is_handed_out, is_in_batch, is_in_queue, is_out, is_queued, is_queued_of, is_ready, is_sealed, is_sealed_of, line_of, move, move_first, oldest_of, put_in, queued, sealed_whole}
-use Rattle.book_queue.specs.Views.{AreApart, AreKept, BatchFits, ChainFits, LaneFits, SlotFits, changed, count_if, grown, held_of, is_sealed_below, lane_at, number_in, place_at, refilled, sealed_to, shrunk}
-use Rattle.book_queue.proofs.Lists.{all_as, all_of_all, all_middle, and_false, any_none, count_as, count_length, count_map, map_as}
+use Rattle.book_queue.specs.Content.{Held, Place, Sealed, Out, batch_of, count_of, is_in_batch, is_in_queue, is_out, is_queued, is_queued_of, is_sealed, is_sealed_of, line_of, move, move_first, oldest_of, put_in, queued, sealed_whole}
+use Rattle.book_queue.specs.Views.{AreApart, AreKept, ChainFits, SlotFits, changed, count_if, held_of, is_sealed_below, lane_at, number_in, place_at, sealed_to}
+use Rattle.book_queue.proofs.Lists.{all_as, all_of_all, and_false, any_none, count_as, count_length, count_map, map_as}
 use Rattle.book_queue.proofs.Lanes.{SameBehind, lane_other, lane_same, lane_sealed}
 use Rattle.book_queue.proofs.Numbers.{apart_false, false_apart, number_all, number_other, number_own, number_push, number_without, same_true, true_same}
-use Rattle.book_queue.proofs.Slots.{by_steps, chain_own, none_goes, queued_of_chain, queued_of_stream, restored_in, restored_out, step_goes, step_stays}
+use Rattle.book_queue.proofs.Slots.{by_steps, chain_own, none_goes, restored_in, restored_out, step_goes, step_stays}
 
 -- A record at a place
 

@@ -1,8 +1,7 @@
 -- Records that come, and queues that are sealed for them, as contracts see it.
-use Rattle.std.proofs.Common.{arith, ◌≡◌, ◌≢◌, ℕ, zero, suc, ◌+◌, ◌-◌, ◌<◌, ◌≤◌, ◌==◌, ◌^◌, List, [], ◌∷◌, ◌++◌, map, find, length, Bool, true, false, not, ◌&&◌, nat_lt, refl, sym, ◌∙◌, ap, subst, inl, inr, ◌⊎◌, Option, None, Some, option_map, unwrap_or, slice_index_or, slice_set, length-append}
-use Rattle.std.specs.Prelude.{if◌then◌else◌}
-use Rattle.std.specs.List.{AllByRecursion, list_any}
-use Rattle.std.proofs.lemmas.Bool.{cases_Bool, cases_eq, cases_lt, false≢true}
+use Rattle.std.proofs.Common.{arith, ◌≡◌, ℕ, ◌+◌, ◌-◌, ◌<◌, ◌≤◌, ◌^◌, List, [], ◌∷◌, ◌++◌, map, length, true, false, nat_lt, refl, sym, ◌∙◌, ap, subst, inl, inr, ◌⊎◌, Option, None, Some, unwrap_or, slice_index_or, slice_set}
+use Rattle.std.specs.List.{AllByRecursion}
+use Rattle.std.proofs.lemmas.Bool.{cases_Bool}
 use Rattle.std.proofs.lemmas.Option.{none-some}
 use Rattle.buffer_pool.specs.declared.slot.Slot.{Slot}
 use Rattle.buffer_pool.specs.Content.{PoolView}
@@ -10,10 +9,10 @@ use Rattle.buffer_pool.specs.Content.{is_queued as is_queued_free, is_queued_of 
 use Rattle.book_queue.specs.declared.lane.Lane.{Lane}
 use Rattle.book_queue.specs.declared.batch.Batch.{Batch}
 use Rattle.book_queue.specs.declared.batch.Parked.{Parked}
-use Rattle.book_queue.specs.Content.{Held, Queued, QueueView, count_of, oldest_of, queued, sealed_for, sealed_full, sealed_oldest, sealed_whole}
-use Rattle.book_queue.specs.Views.{AreKept, IsKept, MayCome, SlotFits, changed, count_if, grown, held_of, lane_at, next_of, parked_of, view_of}
+use Rattle.book_queue.specs.Content.{Held, count_of, queued, sealed_for, sealed_full, sealed_oldest, sealed_whole}
+use Rattle.book_queue.specs.Views.{IsKept, SlotFits, changed, grown, held_of, lane_at, next_of, parked_of, view_of}
 use Rattle.book_queue.proofs.Lists.{count_within}
-use Rattle.book_queue.proofs.Lanes.{SameBehind, behind_same}
+use Rattle.book_queue.proofs.Lanes.{behind_same}
 use Rattle.book_queue.proofs.Kept.{pushed_kept}
 use Rattle.book_queue.proofs.Places.{count_queued, oldest_is, pushed_view}
 use Rattle.book_queue.proofs.Handing.{lane_found}

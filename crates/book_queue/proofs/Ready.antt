@@ -1,16 +1,15 @@
 -- Whose sealed records are the oldest.
-use Rattle.std.proofs.Common.{arith, ◌≡◌, ◌≢◌, ℕ, zero, suc, ◌+◌, ◌-◌, ◌<◌, ◌≤◌, ◌==◌, List, [], ◌∷◌, ◌++◌, map, find, length, Bool, true, false, not, ◌&&◌, ◌||◌, nat_lt, refl, sym, ◌∙◌, ap, subst, inl, inr, ◌⊎◌, Option, None, Some, IsSome, option_map, unwrap_or}
-use Rattle.std.specs.Prelude.{if◌then◌else◌}
+use Rattle.std.proofs.Common.{arith, ◌≡◌, ℕ, ◌+◌, ◌<◌, ◌≤◌, ◌==◌, List, [], ◌∷◌, map, find, length, Bool, true, false, ◌&&◌, ◌||◌, nat_lt, refl, sym, ◌∙◌, ap, subst, inl, inr, ◌⊎◌, Option, None, Some, IsSome, option_map, unwrap_or}
 use Rattle.std.specs.List.{AllByRecursion, list_any}
-use Rattle.std.proofs.lemmas.Bool.{cases_Bool, cases_eq, cases_lt, false≢true}
+use Rattle.std.proofs.lemmas.Bool.{cases_Bool, cases_lt, false≢true}
 use Rattle.std.proofs.lemmas.Option.{none-some}
 use Rattle.buffer_pool.specs.declared.slot.Slot.{Slot}
 use Rattle.buffer_pool.specs.Content.{RiseFrom, first_of}
 use Rattle.buffer_pool.specs.Content.{is_queued as is_queued_free, is_queued_of as is_queued_slot}
 use Rattle.book_queue.specs.declared.lane.Lane.{Lane}
 use Rattle.book_queue.specs.declared.batch.Batch.{Batch}
-use Rattle.book_queue.specs.Content.{Held, is_ready, is_sealed, ready_of}
-use Rattle.book_queue.specs.Views.{AreKept, IsOldestBelow, SlotFits, count_if, front_of, held_of, is_sealed_below, lane_at, place_at}
+use Rattle.book_queue.specs.Content.{is_ready, ready_of}
+use Rattle.book_queue.specs.Views.{AreKept, IsOldestBelow, SlotFits, count_if, front_of, held_of, is_sealed_below, lane_at}
 use Rattle.book_queue.proofs.Lists.{all_as, all_both, all_of_all, and_first, and_second, count_any, count_fewer}
 use Rattle.book_queue.proofs.Numbers.{same_true, true_same}
 use Rattle.book_queue.proofs.Places.{and_true, find_map, held_sealed_of, option_map_twice}

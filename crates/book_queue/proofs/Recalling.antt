@@ -1,15 +1,13 @@
 -- Batches that are all put back.
-use Rattle.std.proofs.Common.{arith, ◌≡◌, ◌≢◌, ℕ, zero, suc, ◌+◌, ◌-◌, ◌<◌, ◌≤◌, ◌==◌, List, [], ◌∷◌, ◌++◌, map, length, Bool, true, false, not, ◌&&◌, refl, sym, ◌∙◌, ap, subst, inl, inr, ◌⊎◌, Option, None, Some, IfSome, IfNone, is_some, slice_get, unwrap_or, get_or}
-use Rattle.std.specs.Prelude.{if◌then◌else◌}
-use Rattle.std.specs.List.{AllByRecursion, list_any}
+use Rattle.std.proofs.Common.{arith, ◌≡◌, ℕ, zero, suc, ◌-◌, ◌<◌, ◌≤◌, List, [], ◌∷◌, map, length, true, false, refl, sym, ◌∙◌, ap, subst, inl, inr, ◌⊎◌, Option, None, Some, IfSome, IfNone, is_some, slice_get, unwrap_or, get_or}
+use Rattle.std.specs.List.{list_any}
 use Rattle.std.proofs.lemmas.Bool.{cases_Bool, false≢true}
 use Rattle.std.proofs.lemmas.Option.{none-some, slice_get_cases}
-use Rattle.buffer_pool.specs.declared.slot.Slot.{Slot}
 use Rattle.buffer_pool.specs.Content.{PoolView}
 use Rattle.book_queue.specs.declared.lane.Lane.{Lane}
 use Rattle.book_queue.specs.declared.batch.Batch.{Batch}
 use Rattle.book_queue.specs.declared.batch.Parked.{Parked}
-use Rattle.book_queue.specs.Content.{Held, Place, Sealed, QueueView, is_handed_out, is_in_batch, is_queued, move, put_in}
+use Rattle.book_queue.specs.Content.{Held, Sealed, is_handed_out, is_in_batch, move, put_in}
 use Rattle.book_queue.specs.Views.{AreKept, IsKept, count_if, held_of}
 use Rattle.book_queue.proofs.Lists.{any_none}
 use Rattle.book_queue.proofs.Handing.{any_out, in_batch_out, none_out}

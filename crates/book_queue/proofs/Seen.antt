@@ -1,17 +1,16 @@
 -- What the calls of a queue find, as contracts see it.
-use Rattle.std.proofs.Common.{arith, ◌≡◌, ◌≢◌, ℕ, zero, suc, ◌+◌, ◌-◌, ◌<◌, ◌≤◌, ◌==◌, List, [], ◌∷◌, ◌++◌, map, find, length, take, drop, Bool, true, false, not, ◌&&◌, ◌||◌, nat_lt, refl, sym, ◌∙◌, ap, subst, inl, inr, ◌⊎◌, Option, None, Some, IfSome, is_some, option_map, option_to_list, unwrap_or, slice_index_or, remove, Result, Ok, Err, IfOk}
-use Rattle.std.specs.Prelude.{if◌then◌else◌}
+use Rattle.std.proofs.Common.{◌≡◌, ℕ, suc, ◌<◌, List, [], ◌∷◌, ◌++◌, map, find, length, take, drop, Bool, true, false, refl, sym, ◌∙◌, ap, subst, inl, inr, ◌⊎◌, Option, None, Some, IfSome, is_some, option_map, option_to_list, slice_index_or, remove}
 use Rattle.std.specs.List.{AllByRecursion, list_any}
 use Rattle.std.proofs.Math.Seq.{split_at}
-use Rattle.std.proofs.lemmas.Bool.{cases_Bool, cases_eq, cases_lt, false≢true}
+use Rattle.std.proofs.lemmas.Bool.{cases_Bool, false≢true}
 use Rattle.std.proofs.lemmas.List.{append-nil}
 use Rattle.buffer_pool.specs.declared.slot.Slot.{Slot}
-use Rattle.buffer_pool.specs.Content.{PoolView, RiseFrom, first_of, is_in_chain, with_chain, with_front_detached, with_restored, detached_for}
+use Rattle.buffer_pool.specs.Content.{PoolView, first_of, is_in_chain, with_front_detached, with_restored, detached_for}
 use Rattle.buffer_pool.specs.Content.{is_queued as is_queued_free, oldest_of as oldest_slot}
 use Rattle.book_queue.specs.declared.lane.Lane.{Lane}
 use Rattle.book_queue.specs.declared.batch.Batch.{Batch}
 use Rattle.book_queue.specs.declared.batch.Parked.{Parked}
-use Rattle.book_queue.specs.Content.{Held, Queued, is_in_queue}
+use Rattle.book_queue.specs.Content.{is_in_queue}
 use Rattle.book_queue.specs.Views.{IsTakenOut, held_of, parked_of}
 use Rattle.book_queue.proofs.Lists.{all_of_all, any_as, any_map}
 use Rattle.book_queue.proofs.Places.{held_queued}

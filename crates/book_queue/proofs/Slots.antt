@@ -1,13 +1,12 @@
 -- The records of a pool, when some of them are detached, put back or freed.
-use Rattle.std.proofs.Common.{arith, ◌≡◌, ◌≢◌, ℕ, zero, suc, ◌+◌, ◌-◌, ◌<◌, ◌≤◌, ◌==◌, List, [], ◌∷◌, ◌++◌, map, filter, find, length, Bool, true, false, not, ◌&&◌, nat_lt, refl, sym, ◌∙◌, ap, subst, inl, inr, ◌⊎◌, Option, None, Some, option_map, unwrap_or}
-use Rattle.std.specs.Prelude.{if◌then◌else◌}
-use Rattle.std.specs.List.{AllByRecursion, list_any}
-use Rattle.std.proofs.lemmas.Bool.{cases_Bool, cases_eq, cases_lt, false≢true}
+use Rattle.std.proofs.Common.{arith, ◌≡◌, ◌≢◌, ℕ, zero, suc, ◌+◌, ◌-◌, ◌<◌, ◌≤◌, ◌==◌, List, [], ◌∷◌, filter, true, false, nat_lt, refl, sym, ◌∙◌, ap, inl, inr, ◌⊎◌, Option, None, Some, unwrap_or}
+use Rattle.std.specs.List.{AllByRecursion}
+use Rattle.std.proofs.lemmas.Bool.{cases_Bool, cases_lt, false≢true}
 use Rattle.std.proofs.lemmas.Option.{none-some}
 use Rattle.buffer_pool.specs.declared.slot.Slot.{Slot}
 use Rattle.buffer_pool.specs.Content.{RiseFrom, first_of, in_chain, is_free, is_in_chain, is_of_chain, is_queued, is_queued_of, released, with_chain, with_restored, without_chain}
 use Rattle.book_queue.specs.Views.{count_if, is_sealed_below}
-use Rattle.book_queue.proofs.Lists.{and_first, and_second, and_false, count_none, all_as}
+use Rattle.book_queue.proofs.Lists.{and_first, and_second, and_false, count_none}
 
 -- Queued or detached
 

@@ -1,8 +1,7 @@
 -- What is so of every queue, as contracts see it.
-use Rattle.std.proofs.Common.{arith, ◌≡◌, ◌≢◌, ℕ, zero, suc, ◌+◌, ◌-◌, ◌<◌, ◌≤◌, ◌==◌, List, [], ◌∷◌, ◌++◌, map, find, length, sum_by, Bool, true, false, not, ◌&&◌, nat_lt, refl, sym, ◌∙◌, ap, subst, inl, inr, ◌⊎◌, Option, None, Some, IfSome, option_map, option_to_list, unwrap_or}
-use Rattle.std.specs.Prelude.{if◌then◌else◌}
+use Rattle.std.proofs.Common.{arith, ◌≡◌, ℕ, ◌+◌, ◌<◌, ◌≤◌, ◌==◌, List, [], ◌∷◌, ◌++◌, map, length, true, false, nat_lt, refl, sym, ◌∙◌, ap, subst, inl, inr, ◌⊎◌, Option, None, Some, IfSome, option_to_list}
 use Rattle.std.specs.List.{AllByRecursion, list_any}
-use Rattle.std.proofs.lemmas.Bool.{cases_Bool, cases_eq, cases_lt, false≢true}
+use Rattle.std.proofs.lemmas.Bool.{cases_Bool, false≢true}
 use Rattle.std.proofs.lemmas.List.{append-nil, length-map}
 use Rattle.std.proofs.lemmas.List.Sums.{sum_by-cons}
 use Rattle.buffer_pool.specs.declared.slot.Slot.{Slot}
@@ -11,9 +10,9 @@ use Rattle.buffer_pool.specs.Content.{bytes_of as bytes_of_slots}
 use Rattle.book_queue.specs.declared.lane.Lane.{Lane}
 use Rattle.book_queue.specs.declared.batch.Batch.{Batch}
 use Rattle.book_queue.specs.declared.batch.Parked.{Parked}
-use Rattle.book_queue.specs.Content.{Held, Place, Queued, QueueView, all_of, bytes_of, is_in_batch, IsBatchOf, IsOfOneStream, IsQueue, number_below, RiseBetween}
-use Rattle.book_queue.specs.Views.{AreKept, BatchFits, ChainFits, IsKept, MayCome, SlotFits, held_of, lane_at, next_of, number_in, parked_of, place_at, view_of}
-use Rattle.book_queue.proofs.Lists.{all_as, all_both, all_map, all_middle, all_of_all, all_push, any_as, any_map, count_any}
+use Rattle.book_queue.specs.Content.{Held, Queued, bytes_of, is_in_batch, IsBatchOf, IsOfOneStream, IsQueue, number_below, RiseBetween}
+use Rattle.book_queue.specs.Views.{AreKept, BatchFits, ChainFits, IsKept, MayCome, SlotFits, held_of, lane_at, next_of, parked_of, place_at, view_of}
+use Rattle.book_queue.proofs.Lists.{all_as, all_both, all_map, all_middle, all_push, any_as, any_map, count_any}
 use Rattle.book_queue.proofs.Kept.{seqs_below, slots_of}
 use Rattle.book_queue.proofs.Numbers.{number_all, true_same}
 use Rattle.book_queue.proofs.Places.{in_batch, in_no_batch}

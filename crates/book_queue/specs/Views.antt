@@ -1,5 +1,5 @@
 -- How a queue keeps its records: in a pool, beside counts for each stream and the batches that are handed out.
-use Rattle.std.specs.Prelude.{◌≡◌, ◌≢◌, ℕ, ◌+◌, ◌-◌, ◌<◌, ◌≤◌, ◌==◌, ◌^◌, List, [], ◌∷◌, ◌++◌, map, length, Bool, true, false, ◌&&◌, nat_lt, if◌then◌else◌, Option, None, Some, slice_index_or, slice_set, unwrap_or}
+use Rattle.std.specs.Prelude.{◌≡◌, ◌≢◌, ℕ, ◌+◌, ◌-◌, ◌<◌, ◌≤◌, ◌==◌, ◌^◌, List, [], ◌∷◌, ◌++◌, map, length, Bool, true, ◌&&◌, nat_lt, if◌then◌else◌, Option, None, Some, slice_index_or, slice_set, unwrap_or}
 use Rattle.std.specs.List.{AllByRecursion, list_any}
 use Rattle.buffer_pool.specs.declared.slot.Slot.{Slot}
 use Rattle.buffer_pool.specs.Content.{PoolView, first_of, is_in_chain, is_queued_of}

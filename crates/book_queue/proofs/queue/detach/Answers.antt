@@ -1,4 +1,4 @@
-use Rattle.std.proofs.Common.{ap, ◌∙◌}
+use Rattle.std.proofs.Common.{ap}
 use Rattle.book_queue.proofs.Seen.{detached_back}
 use Rattle.book_queue.proofs.queue.detach.Goals as goal
 

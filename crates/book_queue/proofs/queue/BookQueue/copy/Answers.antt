@@ -1,4 +1,4 @@
-use Rattle.std.proofs.Common.{◌≡◌, ◌==◌, ◌∙◌, ◌<◌, [], false, length, refl, slice_index_or, subst, sym}
+use Rattle.std.proofs.Common.{◌≡◌, ◌==◌, ◌∙◌, ◌<◌, [], false, length, refl, slice_index_or, subst}
 use Rattle.std.specs.List.{list_any}
 use Rattle.buffer_pool.specs.Content.{chain_of}
 use Rattle.book_queue.specs.declared.batch.Batch.{Batch}

@@ -1,8 +1,8 @@
-use Rattle.std.proofs.Common.{arith, ◌≡◌, ◌∙◌, ◌≤◌, ◌<◌, ◌+◌, ◌++◌, [], ◌∷◌, ap, length, min, subst, sym, Some}
+use Rattle.std.proofs.Common.{arith, ◌≡◌, ◌∙◌, ◌<◌, ◌+◌, ◌++◌, [], ◌∷◌, ap, min, subst, sym, Some}
 use Rattle.std.proofs.lemmas.Grind.{common_steps}
 use Rattle.book_queue.specs.declared.batch.Batch.{Batch}
 use Rattle.book_queue.specs.Content.{HandsOut, ready_of}
-use Rattle.book_queue.specs.Views.{lane_at, view_of}
+use Rattle.book_queue.specs.Views.{view_of}
 use Rattle.book_queue.proofs.Handing.{handed_out, HandsOutAs, is_ready, lane_found}
 use Rattle.book_queue.proofs.queue.BookQueue.hand_out.Goals as goal
 

@@ -1,4 +1,4 @@
-use Rattle.std.proofs.Common.{◌≡◌, ◌∙◌}
+use Rattle.std.proofs.Common.{◌∙◌}
 use Rattle.book_queue.proofs.Recalling.{has_out_is}
 use Rattle.book_queue.proofs.queue.BookQueue.has_out.Goals as goal
 

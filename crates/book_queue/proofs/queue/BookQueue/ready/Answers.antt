@@ -1,4 +1,4 @@
-use Rattle.std.proofs.Common.{◌≡◌, ◌∙◌, subst, sym}
+use Rattle.std.proofs.Common.{◌≡◌, subst}
 use Rattle.book_queue.specs.Content.{ready_of}
 use Rattle.book_queue.specs.Views.{IsOldestBelow}
 use Rattle.book_queue.proofs.Ready.{ready_is}

@@ -1,6 +1,4 @@
-use Rattle.std.proofs.Common.{arith, ◌≡◌, ◌<◌, subst, sym}
-use Rattle.book_queue.specs.Content.{sealed_whole}
-use Rattle.book_queue.specs.Views.{view_of}
+use Rattle.std.proofs.Common.{arith, ◌<◌, subst, sym}
 use Rattle.book_queue.proofs.Kept.{sealed_kept, seqs_below}
 use Rattle.book_queue.proofs.Places.{sealed_view}
 use Rattle.book_queue.proofs.Standing.{seen_as}

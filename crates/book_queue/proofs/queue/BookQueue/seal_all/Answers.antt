@@ -1,4 +1,3 @@
-use Rattle.std.proofs.Common.{◌≡◌}
 use Rattle.book_queue.proofs.Kept.{all_sealed_kept}
 use Rattle.book_queue.proofs.Places.{all_sealed_view}
 use Rattle.book_queue.proofs.Standing.{seen_as}

@@ -1,4 +1,4 @@
-use Rattle.std.proofs.Common.{◌≡◌, ◌∙◌, ◌<◌, ap, subst, sym}
+use Rattle.std.proofs.Common.{◌∙◌, ◌<◌, ap, subst, sym}
 use Rattle.book_queue.specs.Content.{QueueView, Sealed, is_handed_out, move}
 use Rattle.book_queue.specs.Views.{count_if}
 use Rattle.book_queue.proofs.Recalling.{fewer_out, moved_again, none_moved_back}

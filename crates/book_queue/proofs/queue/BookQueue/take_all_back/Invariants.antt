@@ -1,4 +1,4 @@
-use Rattle.std.proofs.Common.{◌≡◌, ℕ}
+use Rattle.std.proofs.Common.{◌≡◌}
 use Rattle.book_queue.specs.Content.{Sealed, is_handed_out, move}
 use Rattle.book_queue.specs.Views.{count_if}
 use Rattle.book_queue.proofs.queue.BookQueue.take_all_back.Given as goal

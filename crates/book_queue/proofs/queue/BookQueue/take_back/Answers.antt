@@ -1,4 +1,4 @@
-use Rattle.std.proofs.Common.{◌≡◌, ◌==◌, false, true, subst}
+use Rattle.std.proofs.Common.{◌≡◌, false, true, subst}
 use Rattle.std.specs.List.{list_any}
 use Rattle.book_queue.specs.Content.{is_in_batch}
 use Rattle.book_queue.proofs.Handing.{has_room, is_stranger, puts_back, PutsBackAs}
