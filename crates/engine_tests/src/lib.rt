@@ -5,3 +5,5 @@
 mod gates;
 #[cfg(test)]
 mod pools;
+#[cfg(test)]
+mod queues;

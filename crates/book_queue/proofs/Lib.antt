@@ -1,0 +1,12 @@
+pub mod Lists
+pub mod Lanes
+pub mod Numbers
+pub mod Slots
+pub mod Kept
+pub mod Places
+pub mod Ready
+pub mod Standing
+pub mod Seen
+pub mod Handing
+pub mod Pushing
+pub mod Recalling
