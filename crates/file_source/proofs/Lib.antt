@@ -1,4 +1,6 @@
 mod ResumeLemmas
 mod BlobLemmas
-pub mod SheetLemmas
-pub mod FitLemmas
+mod ObjectLemmas
+mod RowLemmas
+mod FileLemmas
+mod SaidLemmas

@@ -4,7 +4,7 @@ use Rattle.std.proofs.lemmas.List.{drop-drop, length-drop, length-append, drop_a
 use Rattle.source_lines.specs.Checkpoints.{Row, stretches, rows_in}
 use Rattle.source_lines.specs.Streams.{blob_behind}
 use Rattle.source_lines.proofs.CutLemmas.{cuts_alike}
-use Rattle.file_source.specs.Sheet.{Fields}
+use Rattle.csv_sheet.specs.Sheet.{Fields}
 use Rattle.file_source.specs.Blob.{row_blob}
 use Rattle.file_source.specs.Rows.{rows_from, rows_of}
 use Rattle.file_source.specs.Laws.{FilesResume}

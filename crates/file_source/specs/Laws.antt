@@ -2,7 +2,7 @@
 use Rattle.std.specs.Prelude.{◌≡◌, ◌≢◌, ℕ, ◌+◌, ◌≤◌, List, [], ◌++◌, drop, length}
 use Rattle.source_lines.specs.Checkpoints.{Row, stretches, rows_in}
 use Rattle.source_lines.specs.Streams.{blob_behind}
-use Rattle.file_source.specs.Sheet.{Sheet}
+use Rattle.csv_sheet.specs.Sheet.{Sheet}
 use Rattle.file_source.specs.Blob.{row_blob}
 use Rattle.file_source.specs.Rows.{rows_of}
 

@@ -1,4 +1,5 @@
-pub mod Sheet
 pub mod Blob
 pub mod Rows
 pub mod Laws
+pub mod Files
+pub mod Discovered

@@ -1,13 +1,9 @@
--- A file's records as the rows of a source's list, and the lines of its stream.
-use Rattle.std.specs.Prelude.{ℕ, ◌+◌, List, [], ◌∷◌, length, drop, nat_lt, true, if◌then◌else◌, Result, Ok, Err}
+-- A file's records as the rows of a source's list.
+use Rattle.std.specs.Prelude.{ℕ, ◌+◌, List, [], ◌∷◌, ◌++◌, drop, true}
 use Rattle.json.specs.Print.{quoted}
 use Rattle.json_write.specs.Objects.{Part, named, object_text}
-use Rattle.outside.specs.declared.status.Status.{Status}
-use Rattle.outside.specs.declared.status.Status.TheVariants as status
-use Rattle.outside.specs.declared.faults.StateFault.TheVariants as fault
 use Rattle.source_lines.specs.Checkpoints.{Row}
-use Rattle.source_lines.specs.Streams.{Form, stream_lines}
-use Rattle.file_source.specs.Sheet.{Fields, Sheet, sheet_in}
+use Rattle.csv_sheet.specs.Sheet.{Fields, Sheet}
 use Rattle.file_source.specs.Blob.{row_blob}
 
 -- each column's name with its field, in the order of the columns
@@ -30,12 +26,14 @@ rows_from header number (fields ∷ records) =
 abbrev pub rows_of : Sheet → List Row
 rows_of sheet = rows_from sheet.header 1 sheet.records
 
--- The lines of a stream that starts behind so many records, with this blob. The file is read and checked first.
-abbrev pub sheet_lines : Form → ℕ → List ℕ → ℕ → Result Sheet ℕ → Result (List (List ℕ)) Status
-sheet_lines form stream blob behind (Err row) = Err (status.BadRow stream row)
-sheet_lines form stream blob behind (Ok sheet) =
-    if nat_lt (length sheet.records) behind then Err (status.BadState fault.OutOfRange)
-    else Ok (stream_lines form blob (drop behind (rows_of sheet)))
+-- What contracts see of the rows of a file that stand behind so many records.
+pub record RowsSeen : Type 0 where
+  pub sheet : Sheet
+  pub behind : ℕ
 
-abbrev pub file_lines : Form → ℕ → List ℕ → ℕ → List ℕ → Result (List (List ℕ)) Status
-file_lines form stream blob behind text = sheet_lines form stream blob behind (sheet_in text)
+abbrev pub rows_behind : RowsSeen → List Row
+rows_behind rows = drop rows.behind (rows_of rows.sheet)
+
+-- For private clauses: what stands before a field of a column.
+abbrev pub key_text : List ℕ → List ℕ
+key_text name = quoted name ++ 58 ∷ []

@@ -3,8 +3,12 @@
 
 mod blob;
 mod laws;
-mod sheet;
+mod rows;
+mod said;
+mod source;
 
 pub use blob::{put_row_blob, start_of};
 pub use laws::{blobs_read_back, files_resume};
-pub use sheet::{Sheet, SheetFault, read_sheet};
+pub use rows::FileRows;
+pub use said::{discovered, failed, file_text_of, specified, succeeded};
+pub use source::{FileFeed, FileSource, FileStart, FileText, FileTextList};

@@ -1,0 +1,4 @@
+mod SheetLemmas
+mod FitLemmas
+mod CellLemmas
+mod ReadLemmas
