@@ -1,7 +1,9 @@
 // An account of each stream, and one of the lane of all streams.
-ghost use Rattle.std.specs.Prelude.{◌≡◌, ℕ, ◌+◌, ◌<◌, ◌≤◌, ◌^◌, [], length, map, option_map, replicate, Some, sum, slice_get, ◌++◌, ◌∷◌, None, IfOk, OnErr, OnOk};
-ghost use Rattle.sync_ledger.specs.Accounts.{all_pending, changed_lane, more_since, new_account, new_lane, none_since, pending_of, with_pending, with_record, with_status};
-ghost use Rattle.sync_ledger.specs.Kept.{AreWithin, HasPlace, IsLaneWithin, IsWithin, LeavesAt, changed_at, changed_nth, lane_at, place_form};
+ghost use Rattle.std.specs.Prelude.{◌≡◌, ◌+◌, ◌<◌, ◌≤◌, ◌^◌, [], ◌∷◌, ◌++◌, length, option_map, slice_get, IfOk, OnErr, OnOk};
+ghost use Rattle.basics.specs.declared.limits.TheConstants.{MOST_STREAMS};
+ghost use Rattle.sync_ledger.specs.declared.notes.TheConstants.{MOST_LINES};
+ghost use Rattle.sync_ledger.specs.Accounts.{all_pending, more_since, new_account, new_lane, none_since, with_pending, with_record, with_status};
+ghost use Rattle.sync_ledger.specs.Kept.{AreWithin, HasPlace, LeavesAt, changed_at, changed_nth, lane_at, place_form};
 ghost use Rattle.sync_ledger.specs.Noted.{least_line as least_line_of};
 ghost use Rattle.sync_ledger.specs.Takes.{LeavesPending};
 
@@ -177,7 +179,7 @@ impl Accounts {
     /// Counts a record of a stream.
     pub fn count_record(&mut self, place: usize)
         requires place { place < length self.old.streams }
-        requires room { (lines : ℕ) × (held : ℕ) × (lines < 2 ^ 63) × AreWithin lines held self.old }
+        requires room { AreWithin MOST_LINES 0 self.old }
         ensures { self.new ≡ record { streams = changed_nth with_record self.old.streams place; global = more_since self.old.global } }
     {
         self.streams[place].count();
@@ -206,7 +208,8 @@ impl Accounts {
     /// These states of a lane were given.
     pub fn give(&mut self, place: LanePlace, held: &mut LinkedList<Pending>)
         requires place { HasPlace self.old place }
-        requires room { (lines : ℕ) × (lines < 2 ^ 63) × AreWithin lines (length held.old) self.old }
+        requires held { length held.old ≤ 1 }
+        requires room { AreWithin MOST_LINES 0 self.old }
         ensures given { self.new ≡ changed_at (with_pending held.old) self.old place }
         ensures held { held.new ≡ [] }
     {
@@ -235,8 +238,8 @@ impl Accounts {
 
     /// How many states are pending in all lanes.
     pub fn pending(&self) -> u64
-        requires room { (lines : ℕ) × (held : ℕ) × (lines < 2 ^ 32) × AreWithin lines held self.now }
-        requires few { length self.now.streams < 2 ^ 16 }
+        requires room { AreWithin MOST_LINES 0 self.now }
+        requires few { length self.now.streams ≤ MOST_STREAMS }
         ensures { result ≡ length (all_pending self.now) }
     {
         let mut count = self.global.pending.len() as u64;

@@ -1,7 +1,6 @@
 // States on their way to the destination and back.
-ghost use Rattle.std.specs.Prelude.{◌≡◌, ℕ, ◌<◌, ◌≤◌, length, take, drop, get_or, map, IfOk, IfNone, IfSome, OnErr, OnOk};
+ghost use Rattle.std.specs.Prelude.{◌≡◌, ◌≤◌, length, drop, IfOk, IfNone, IfSome, OnErr};
 ghost use Rattle.std.specs.List.{AllByRecursion};
-ghost use Rattle.airbyte_message.specs.Same.{Same};
 ghost use Rattle.sync_ledger.specs.Takes.{DiffersFrom, IsFirstSame, LeavesPending};
 ghost use Rattle.sync_ledger.specs.Noted.{least_line as least_line_of, lesser as lesser_line};
 
@@ -42,7 +41,7 @@ fn pass_over(pending: &mut LinkedList<Pending>, count: usize)
     requires { count ≤ length pending.old }
     ensures { pending.new ≡ drop count pending.old }
 {
-    for _ in 0..count {
+    for _step in 0..count {
         drop(pending.pop_front());
     }
 }
