@@ -24,9 +24,9 @@ stream_more lines held lines' held' account more room within = record { records 
 -- the same accounts behind another line
 pub same_within : (lines held lines' held' : ℕ) (accounts : AllAccounts) → lines ≤ lines' → lines + held' ≤ lines' + held → AreWithin lines held accounts → AreWithin lines' held' accounts
 same_within lines held lines' held' accounts more room within = record {
-    streams = all_same (IsWithin lines held) (IsWithin lines' held') accounts.streams (λ account. stream_more lines held lines' held' account more room) within.streams;
-    global = lane_more lines held lines' held' accounts.global more room within.global;
-  }
+  streams = all_same (IsWithin lines held) (IsWithin lines' held') accounts.streams (λ account. stream_more lines held lines' held' account more room) within.streams;
+  global = lane_more lines held lines' held' accounts.global more room within.global;
+}
 
 counted_lane : (lines held : ℕ) (account : LaneAccount) → IsLaneWithin lines held account → IsLaneWithin (lines + 1) 0 (more_since account)
 counted_lane lines held account within = record { since = omega (arith, within.since); pending = omega (arith, within.pending) }
@@ -34,41 +34,41 @@ counted_lane lines held account within = record { since = omega (arith, within.s
 -- a record more
 pub record_within : (lines held n : ℕ) (accounts : AllAccounts) → AreWithin lines held accounts → AreWithin (lines + 1) 0 (record { streams = changed_nth with_record accounts.streams n; global = more_since accounts.global })
 record_within lines held n accounts within = record {
-    streams = all_changed (IsWithin lines held) (IsWithin (lines + 1) 0) with_record accounts.streams n
-    (λ account. stream_more lines held (lines + 1) 0 account (omega arith) (omega arith))
-    (λ account at is. record { records = omega (arith, is.records); lane = counted_lane lines held account.lane is.lane })
-    within.streams;
-    global = counted_lane lines held accounts.global within.global;
-  }
+  streams = all_changed (IsWithin lines held) (IsWithin (lines + 1) 0) with_record accounts.streams n
+      (λ account. stream_more lines held (lines + 1) 0 account (omega arith) (omega arith))
+      (λ account at is. record { records = omega (arith, is.records); lane = counted_lane lines held account.lane is.lane })
+      within.streams;
+  global = counted_lane lines held accounts.global within.global;
+}
 
 -- a status
 pub status_within : (lines held n : ℕ) (status : StreamStatus) (accounts : AllAccounts) → AreWithin lines held accounts → AreWithin (lines + 1) 0 (record accounts { streams = changed_nth (with_status status) accounts.streams n })
 status_within lines held n status accounts within = record {
-    streams = all_changed (IsWithin lines held) (IsWithin (lines + 1) 0) (with_status status) accounts.streams n
-    (λ account. stream_more lines held (lines + 1) 0 account (omega arith) (omega arith))
-    (λ account at is. record { records = omega (arith, is.records); lane = lane_more lines held (lines + 1) 0 account.lane (omega arith) (omega arith) is.lane })
-    within.streams;
-    global = lane_more lines held (lines + 1) 0 accounts.global (omega arith) (omega arith) within.global;
-  }
+  streams = all_changed (IsWithin lines held) (IsWithin (lines + 1) 0) (with_status status) accounts.streams n
+      (λ account. stream_more lines held (lines + 1) 0 account (omega arith) (omega arith))
+      (λ account at is. record { records = omega (arith, is.records); lane = lane_more lines held (lines + 1) 0 account.lane (omega arith) (omega arith) is.lane })
+      within.streams;
+  global = lane_more lines held (lines + 1) 0 accounts.global (omega arith) (omega arith) within.global;
+}
 
 -- one lane changed, where what is asked of it stays
 lane_within : (lines held lines' held' : ℕ) (change : LaneAccount → LaneAccount) (accounts : AllAccounts) (at : LanePlace) → lines ≤ lines' → lines + held' ≤ lines' + held
     → ((account : LaneAccount) → lane_at accounts at ≡ Some account → IsLaneWithin lines held account → IsLaneWithin lines' held' (change account))
     → AreWithin lines held accounts → AreWithin lines' held' (changed_at change accounts at)
 lane_within lines held lines' held' change accounts (place.Stream n) more room changes within = record {
-    streams = all_changed (IsWithin lines held) (IsWithin lines' held') (changed_lane change) accounts.streams n
-    (λ account. stream_more lines held lines' held' account more room)
-    (λ account at is. record { records = omega (arith, is.records, more); lane = changes account.lane (ap (λ (found : Option Account). lane_found found) at) is.lane })
-    within.streams;
-    global = lane_more lines held lines' held' accounts.global more room within.global;
-  }
+  streams = all_changed (IsWithin lines held) (IsWithin lines' held') (changed_lane change) accounts.streams n
+      (λ account. stream_more lines held lines' held' account more room)
+      (λ account at is. record { records = omega (arith, is.records, more); lane = changes account.lane (ap (λ (found : Option Account). lane_found found) at) is.lane })
+      within.streams;
+  global = lane_more lines held lines' held' accounts.global more room within.global;
+}
   where
     lane_found : Option Account → Option LaneAccount
     lane_found found = elim found as (λ _. Option LaneAccount) [ None ↦ None | Some account ↦ Some account.lane ]
 lane_within lines held lines' held' change accounts place.Global more room changes within = record {
-    streams = all_same (IsWithin lines held) (IsWithin lines' held') accounts.streams (λ account. stream_more lines held lines' held' account more room) within.streams;
-    global = changes accounts.global refl within.global;
-  }
+  streams = all_same (IsWithin lines held) (IsWithin lines' held') accounts.streams (λ account. stream_more lines held lines' held' account more room) within.streams;
+  global = changes accounts.global refl within.global;
+}
 
 -- a state that is to be given
 pub state_within : (lines held : ℕ) (accounts : AllAccounts) (at : LanePlace) → AreWithin lines held accounts → AreWithin (lines + 1) 1 (changed_at none_since accounts at)
@@ -94,13 +94,13 @@ changed_streams change accounts place.Global = refl
 kept_more : (noted : Noted) (accounts : AllAccounts) (form : Option StateForm) (held : List Pending) → IsKept noted → noted.lines < MOST_LINES → length accounts.streams ≡ length noted.accounts.streams → length held ≤ 1 → AreWithin (noted.lines + 1) (length held) accounts
     → IsKept (record { ids = noted.ids; accounts = accounts; form = form; lines = noted.lines + 1; held = held })
 kept_more noted accounts form held kept room same few within = record {
-    distinct = kept.distinct;
-    few = kept.few;
-    streams = same ∙ kept.streams;
-    lines = omega (arith, room);
-    held = few;
-    within = within;
-  }
+  distinct = kept.distinct;
+  few = kept.few;
+  streams = same ∙ kept.streams;
+  lines = omega (arith, room);
+  held = few;
+  within = within;
+}
 
 pub kept_record : (noted : Noted) (n : ℕ) → IsKept noted → noted.lines < MOST_LINES → IsKept (record { ids = noted.ids; accounts = record { streams = changed_nth with_record noted.accounts.streams n; global = more_since noted.accounts.global }; form = noted.form; lines = noted.lines + 1; held = [] })
 kept_record noted n kept room = kept_more noted (record { streams = changed_nth with_record noted.accounts.streams n; global = more_since noted.accounts.global }) noted.form [] kept room (changed_length with_record noted.accounts.streams n) (omega arith) (record_within noted.lines (length noted.held) n noted.accounts kept.within)
@@ -116,30 +116,30 @@ kept_state noted at form state kept room = kept_more noted (changed_at none_sinc
 
 pub kept_given : (noted : Noted) (at : LanePlace) → IsKept noted → IsKept (record { ids = noted.ids; accounts = changed_at (with_pending noted.held) noted.accounts at; form = noted.form; lines = noted.lines; held = [] })
 kept_given noted at kept = record {
-    distinct = kept.distinct;
-    few = kept.few;
-    streams = changed_streams (with_pending noted.held) noted.accounts at ∙ kept.streams;
-    lines = kept.lines;
-    held = omega arith;
-    within = given_within noted.lines noted.held noted.accounts at kept.within;
-  }
+  distinct = kept.distinct;
+  few = kept.few;
+  streams = changed_streams (with_pending noted.held) noted.accounts at ∙ kept.streams;
+  lines = kept.lines;
+  held = omega arith;
+  within = given_within noted.lines noted.held noted.accounts at kept.within;
+}
 
 pub kept_none : (noted : Noted) → IsKept noted → IsKept (record { ids = noted.ids; accounts = noted.accounts; form = noted.form; lines = noted.lines; held = [] })
 kept_none noted kept = record {
-    distinct = kept.distinct;
-    few = kept.few;
-    streams = kept.streams;
-    lines = kept.lines;
-    held = omega arith;
-    within = same_within noted.lines (length noted.held) noted.lines 0 noted.accounts (omega arith) (omega arith) kept.within;
-  }
+  distinct = kept.distinct;
+  few = kept.few;
+  streams = kept.streams;
+  lines = kept.lines;
+  held = omega arith;
+  within = same_within noted.lines (length noted.held) noted.lines 0 noted.accounts (omega arith) (omega arith) kept.within;
+}
 
 pub kept_left : (noted : Noted) (at : LanePlace) (left : List Pending) → length left ≤ length (pending_of (lane_at noted.accounts at)) → IsKept noted → IsKept (record { ids = noted.ids; accounts = changed_at (left_pending left) noted.accounts at; form = noted.form; lines = noted.lines; held = noted.held })
 kept_left noted at left shorter kept = record {
-    distinct = kept.distinct;
-    few = kept.few;
-    streams = changed_streams (left_pending left) noted.accounts at ∙ kept.streams;
-    lines = kept.lines;
-    held = kept.held;
-    within = left_within noted.lines (length noted.held) left noted.accounts at shorter kept.within;
-  }
+  distinct = kept.distinct;
+  few = kept.few;
+  streams = changed_streams (left_pending left) noted.accounts at ∙ kept.streams;
+  lines = kept.lines;
+  held = kept.held;
+  within = left_within noted.lines (length noted.held) left noted.accounts at shorter kept.within;
+}

@@ -1,3 +1,4 @@
 pub mod AccountLemmas
 pub mod KeptLemmas
 pub mod TakeLemmas
+pub mod OpenLemmas

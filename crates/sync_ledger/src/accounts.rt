@@ -7,8 +7,8 @@ ghost use Rattle.sync_ledger.specs.Kept.{AreWithin, HasPlace, LeavesAt, changed_
 ghost use Rattle.sync_ledger.specs.Noted.{least_line as least_line_of};
 ghost use Rattle.sync_ledger.specs.Takes.{LeavesPending};
 
-use crate::{Pending, StateForm};
 use crate::pending::{least_line, take_same};
+use crate::{Pending, StateForm};
 use airbyte_message::{StateMsg, StreamStatus};
 use basics::NoMemory;
 use std::alloc::Global;

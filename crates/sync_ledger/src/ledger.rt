@@ -102,6 +102,13 @@ impl Ledger {
         self.notes.hear_back(self.alloc, told)
     }
 
+    /// How many streams the catalog has.
+    pub fn streams(&self) -> u32
+        ensures { result ≡ length self.now.ids }
+    {
+        self.notes.streams()
+    }
+
     /// How many lines of the source were answered. A line that is refused has the number behind it.
     pub fn lines(&self) -> u64
         ensures { result ≡ self.now.lines }

@@ -144,6 +144,13 @@ impl Notes {
         self.lines
     }
 
+    /// How many streams there are.
+    pub fn streams(&self) -> u32
+        ensures { result ≡ length self.now.ids }
+    {
+        self.index.len() as u32
+    }
+
     // A record of this stream.
     fn hear_record(&mut self, id: &StreamId) -> Result<Verdict, LedgerFault>
         requires { self.old.lines < MOST_LINES }
@@ -194,7 +201,12 @@ impl Notes {
     }
 
     // Notes a state whose lane has its account here.
-    fn note_state(&mut self, alloc: Global, state: StateMsg, place: LanePlace) -> Result<(), NoMemory>
+    fn note_state(
+        &mut self,
+        alloc: Global,
+        state: StateMsg,
+        place: LanePlace,
+    ) -> Result<(), NoMemory>
         requires lines { self.old.lines < MOST_LINES }
         requires place { HasPlace self.old.accounts place }
         ensures ok { OnOk result (self.new ≡ state_noted state place self.old) }

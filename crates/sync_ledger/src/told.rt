@@ -34,12 +34,7 @@ fn trace_told(alloc: Global, side: Side, trace: TraceMsg) -> Result<Told, NoMemo
 }
 
 // What a message tells.
-fn message_told(
-    alloc: Global,
-    side: Side,
-    line: &[u8],
-    content: Message,
-) -> Result<Told, NoMemory>
+fn message_told(alloc: Global, side: Side, line: &[u8], content: Message) -> Result<Told, NoMemory>
     ensures { IfOk result (λ told. told ≡ told_by side line.now (Some content)) }
 {
     match content {
