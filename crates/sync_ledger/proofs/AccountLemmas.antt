@@ -27,7 +27,7 @@ by_test false passes fails = fails refl
 pub set_is : (change : Account → Account) (accounts : List Account) (n : ℕ) (account : Account) → n < length accounts → account ≡ get_or accounts n account → set accounts n (change account) ≡ changed_nth change accounts n
 set_is change [] n account within is = absurd (omega (arith, within))
 set_is change (first ∷ more) zero account within is = ap (λ (a : Account). change a ∷ more) is
-set_is change (first ∷ more) (suc n) account within is = ap (λ (as : List Account). first ∷ as) (set_is change more n account (omega (arith, within)) is)
+set_is change (first ∷ more) (suc n) account within is = ap (λ (found : List Account). first ∷ found) (set_is change more n account (omega (arith, within)) is)
 
 pub get_is : (accounts : List Account) (n : ℕ) (account : Account) → n < length accounts → account ≡ get_or accounts n account → slice_get accounts n ≡ Some account
 get_is [] n account within is = absurd (omega (arith, within))
@@ -44,9 +44,9 @@ pub all_changed : (P Q : Account → Type 0) (change : Account → Account) (acc
 all_changed P Q change [] n same new ps = tt
 all_changed P Q change (account ∷ accounts) zero same new ps = (new account refl ps.0, rest accounts ps.1)
   where
-    rest : (as : List Account) → AllByRecursion P as → AllByRecursion Q as
+    rest : (found : List Account) → AllByRecursion P found → AllByRecursion Q found
     rest [] qs = tt
-    rest (a ∷ as) qs = (same a qs.0, rest as qs.1)
+    rest (a ∷ more) qs = (same a qs.0, rest more qs.1)
 all_changed P Q change (account ∷ accounts) (suc n) same new ps = (same account ps.0, all_changed P Q change accounts n same new ps.1)
 
 pub all_same : (P Q : Account → Type 0) (accounts : List Account) → ((account : Account) → P account → Q account) → AllByRecursion P accounts → AllByRecursion Q accounts
@@ -86,7 +86,7 @@ with_account_at (own ∷ ids) id change [] n distinct long at = absurd (omega (a
 with_account_at (own ∷ ids) id change (account ∷ accounts) zero distinct long at = ap (λ (b : Bool). cond b (change account ∷ accounts) (account ∷ with_account ids id change accounts)) (head_same own id at)
 with_account_at (own ∷ ids) id change (account ∷ accounts) (suc n) distinct long at =
     ap (λ (b : Bool). cond b (change account ∷ accounts) (account ∷ with_account ids id change accounts)) (head_differs own id ids n distinct at)
-    ∙ ap (λ (as : List Account). account ∷ as) (with_account_at ids id change accounts n (tail_distinct own ids distinct) (omega (arith, long)) at)
+    ∙ ap (λ (found : List Account). account ∷ found) (with_account_at ids id change accounts n (tail_distinct own ids distinct) (omega (arith, long)) at)
 
 -- a stream that is not there
 head_absent : (own id : StreamId) (ids : List StreamId) → ((n : ℕ) → ¬ (slice_get (own ∷ ids) n ≡ Some id)) → is_same_stream own id ≡ false
@@ -104,7 +104,7 @@ with_account_none [] id change accounts long absent = refl
 with_account_none (own ∷ ids) id change [] long absent = refl
 with_account_none (own ∷ ids) id change (account ∷ accounts) long absent =
     ap (λ (b : Bool). cond b (change account ∷ accounts) (account ∷ with_account ids id change accounts)) (head_absent own id ids absent)
-    ∙ ap (λ (as : List Account). account ∷ as) (with_account_none ids id change accounts (omega (arith, long)) (λ n. absent (suc n)))
+    ∙ ap (λ (found : List Account). account ∷ found) (with_account_none ids id change accounts (omega (arith, long)) (λ n. absent (suc n)))
 
 -- ---- lanes
 
@@ -115,7 +115,7 @@ lane_place ids accounts all (place.Stream n) distinct long is = absurd is
 lane_place ids accounts all place.Global distinct long is = refl
 
 pub with_lane_place : (ids : List StreamId) (accounts : AllAccounts) (lane : Lane) (at : LanePlace) (change : LaneAccount → LaneAccount) → AreDistinct ids → length accounts.streams ≡ length ids → IsPlaceOf ids (Some lane) (Some at) → with_lane ids accounts lane change ≡ changed_at change accounts at
-with_lane_place ids accounts (one id) (place.Stream n) change distinct long is = ap (λ (as : List Account). record accounts { streams = as }) (with_account_at ids id (changed_lane change) accounts.streams n distinct long is)
+with_lane_place ids accounts (one id) (place.Stream n) change distinct long is = ap (λ (found : List Account). record accounts { streams = found }) (with_account_at ids id (changed_lane change) accounts.streams n distinct long is)
 with_lane_place ids accounts (one id) place.Global change distinct long is = absurd is
 with_lane_place ids accounts all (place.Stream n) change distinct long is = absurd is
 with_lane_place ids accounts all place.Global change distinct long is = refl
@@ -125,7 +125,7 @@ lane_none ids accounts (one id) is = ap (λ (a : Option Account). option_map (λ
 lane_none ids accounts all is = absurd is
 
 pub with_lane_none : (ids : List StreamId) (accounts : AllAccounts) (lane : Lane) (change : LaneAccount → LaneAccount) → length accounts.streams ≡ length ids → IsPlaceOf ids (Some lane) None → with_lane ids accounts lane change ≡ accounts
-with_lane_none ids accounts (one id) change long is = ap (λ (as : List Account). record accounts { streams = as }) (with_account_none ids id (changed_lane change) accounts.streams long is)
+with_lane_none ids accounts (one id) change long is = ap (λ (found : List Account). record accounts { streams = found }) (with_account_none ids id (changed_lane change) accounts.streams long is)
 with_lane_none ids accounts all change long is = absurd is
 
 place_within : (ids : List StreamId) (id : StreamId) (n : ℕ) → slice_get ids n ≡ Some id → n < length ids

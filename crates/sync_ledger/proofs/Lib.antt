@@ -2,3 +2,4 @@ pub mod AccountLemmas
 pub mod KeptLemmas
 pub mod TakeLemmas
 pub mod OpenLemmas
+pub mod ListLemmas

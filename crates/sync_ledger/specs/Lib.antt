@@ -5,3 +5,4 @@ pub mod Noted
 pub mod Takes
 pub mod Judged
 pub mod Kept
+pub mod Lists

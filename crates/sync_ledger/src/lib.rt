@@ -4,6 +4,7 @@
 
 mod accounts;
 mod form;
+mod laws;
 mod ledger;
 mod notes;
 mod pending;
@@ -13,6 +14,7 @@ mod verdict;
 
 pub use accounts::{Account, LaneAccount};
 pub use form::StateForm;
+pub use laws::ledger_laws;
 pub use ledger::Ledger;
 pub use notes::MOST_LINES;
 pub use pending::Pending;
