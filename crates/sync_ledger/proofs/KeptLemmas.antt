@@ -1,5 +1,5 @@
 -- What every ledger keeps stays, whatever is noted.
-use Rattle.std.proofs.Common.{arith, ◌≡◌, ℕ, zero, suc, ◌+◌, ◌<◌, ◌≤◌, List, [], ◌∷◌, ◌++◌, length, length-append, slice_get, Option, None, Some, refl, sym, ◌∙◌, ap, subst}
+use Rattle.std.proofs.Common.{arith, ◌≡◌, ℕ, zero, suc, ◌+◌, ◌<◌, ◌≤◌, List, [], ◌∷◌, ◌++◌, length, length-append, slice_get, Option, None, Some, option_map, refl, sym, ◌∙◌, ap, subst}
 use Rattle.std.specs.List.{AllByRecursion}
 use Rattle.basics.specs.declared.stream.StreamId.{StreamId}
 use Rattle.airbyte_message.specs.declared.stream_status.StreamStatus.{StreamStatus}
@@ -58,13 +58,10 @@ lane_within : (lines held lines' held' : ℕ) (change : LaneAccount → LaneAcco
 lane_within lines held lines' held' change accounts (place.Stream n) more room changes within = record {
   streams = all_changed (IsWithin lines held) (IsWithin lines' held') (changed_lane change) accounts.streams n
       (λ account. stream_more lines held lines' held' account more room)
-      (λ account at is. record { records = omega (arith, is.records, more); lane = changes account.lane (ap (λ (found : Option Account). lane_found found) at) is.lane })
+      (λ account at is. record { records = omega (arith, is.records, more); lane = changes account.lane (ap (λ (found : Option Account). option_map (λ account. account.lane) found) at) is.lane })
       within.streams;
   global = lane_more lines held lines' held' accounts.global more room within.global;
 }
-  where
-    lane_found : Option Account → Option LaneAccount
-    lane_found found = elim found as (λ _. Option LaneAccount) [ None ↦ None | Some account ↦ Some account.lane ]
 lane_within lines held lines' held' change accounts place.Global more room changes within = record {
   streams = all_same (IsWithin lines held) (IsWithin lines' held') accounts.streams (λ account. stream_more lines held lines' held' account more room) within.streams;
   global = changes accounts.global refl within.global;

@@ -3,3 +3,5 @@ pub mod KeptLemmas
 pub mod TakeLemmas
 pub mod OpenLemmas
 pub mod ListLemmas
+pub mod JudgeLemmas
+pub mod LeaveLemmas

@@ -24,16 +24,16 @@ next : (n : ℕ) → suc (n + 1) ≡ suc n + 1
 next n = omega arith
 
 filter_yes : (p : Told → Bool) (xs : List Told) (y : Told) → p y ≡ true → length (filter p (xs ++ y ∷ [])) ≡ length (filter p xs) + 1
-filter_yes p [] y yes = ap (λ (b : Bool). length (cond b (y ∷ []) [])) yes
-filter_yes p (x ∷ xs) y yes = by_test (p x)
-    (λ e. ap (λ (b : Bool). length (cond b (x ∷ filter p (xs ++ y ∷ [])) (filter p (xs ++ y ∷ [])))) e ∙ (ap suc (filter_yes p xs y yes) ∙ (next (length (filter p xs)) ∙ sym (ap (λ (b : Bool). length (cond b (x ∷ filter p xs) (filter p xs)) + 1) e))))
-    (λ e. ap (λ (b : Bool). length (cond b (x ∷ filter p (xs ++ y ∷ [])) (filter p (xs ++ y ∷ [])))) e ∙ (filter_yes p xs y yes ∙ sym (ap (λ (b : Bool). length (cond b (x ∷ filter p xs) (filter p xs)) + 1) e)))
+filter_yes p [] y holds = ap (λ (b : Bool). length (cond b (y ∷ []) [])) holds
+filter_yes p (x ∷ xs) y holds = by_test (p x)
+    (λ e. ap (λ (b : Bool). length (cond b (x ∷ filter p (xs ++ y ∷ [])) (filter p (xs ++ y ∷ [])))) e ∙ (ap suc (filter_yes p xs y holds) ∙ (next (length (filter p xs)) ∙ sym (ap (λ (b : Bool). length (cond b (x ∷ filter p xs) (filter p xs)) + 1) e))))
+    (λ e. ap (λ (b : Bool). length (cond b (x ∷ filter p (xs ++ y ∷ [])) (filter p (xs ++ y ∷ [])))) e ∙ (filter_yes p xs y holds ∙ sym (ap (λ (b : Bool). length (cond b (x ∷ filter p xs) (filter p xs)) + 1) e)))
 
 filter_no : (p : Told → Bool) (xs : List Told) (y : Told) → p y ≡ false → length (filter p (xs ++ y ∷ [])) ≡ length (filter p xs)
-filter_no p [] y no = ap (λ (b : Bool). length (cond b (y ∷ []) [])) no
-filter_no p (x ∷ xs) y no = by_test (p x)
-    (λ e. ap (λ (b : Bool). length (cond b (x ∷ filter p (xs ++ y ∷ [])) (filter p (xs ++ y ∷ [])))) e ∙ (ap suc (filter_no p xs y no) ∙ sym (ap (λ (b : Bool). length (cond b (x ∷ filter p xs) (filter p xs))) e)))
-    (λ e. ap (λ (b : Bool). length (cond b (x ∷ filter p (xs ++ y ∷ [])) (filter p (xs ++ y ∷ [])))) e ∙ (filter_no p xs y no ∙ sym (ap (λ (b : Bool). length (cond b (x ∷ filter p xs) (filter p xs))) e)))
+filter_no p [] y fails = ap (λ (b : Bool). length (cond b (y ∷ []) [])) fails
+filter_no p (x ∷ xs) y fails = by_test (p x)
+    (λ e. ap (λ (b : Bool). length (cond b (x ∷ filter p (xs ++ y ∷ [])) (filter p (xs ++ y ∷ [])))) e ∙ (ap suc (filter_no p xs y fails) ∙ sym (ap (λ (b : Bool). length (cond b (x ∷ filter p xs) (filter p xs))) e)))
+    (λ e. ap (λ (b : Bool). length (cond b (x ∷ filter p (xs ++ y ∷ [])) (filter p (xs ++ y ∷ [])))) e ∙ (filter_no p xs y fails ∙ sym (ap (λ (b : Bool). length (cond b (x ∷ filter p xs) (filter p xs))) e)))
 
 status_more : (id : StreamId) (lines : List Told) (line : Told) → last_status id (lines ++ line ∷ []) ≡ status_after id (last_status id lines) line
 status_more id lines line = fold-append (status_after id) None lines (line ∷ [])
@@ -51,8 +51,8 @@ Of lines id account = IsAccountOf id lines account
 
 -- a line that says nothing of the stream
 stays : (lines : List Told) (line : Told) (id : StreamId) (account : Account) → is_record_of id line ≡ false → status_after id (last_status id lines) line ≡ last_status id lines → since_after (one id) (since (one id) lines) line ≡ since (one id) lines → Of lines id account → Of (lines ++ line ∷ []) id account
-stays lines line id account no status count is = record {
-    records = is.records ∙ sym (filter_no (is_record_of id) lines line no);
+stays lines line id account fails status count is = record {
+    records = is.records ∙ sym (filter_no (is_record_of id) lines line fails);
     status = is.status ∙ sym (status_more id lines line ∙ status);
     since = is.since ∙ sym (since_more (one id) lines line ∙ count);
   }
@@ -96,7 +96,7 @@ all_others : (P Q : StreamId → Account → Type 0) (other : StreamId) (ids : L
 all_others P Q other [] accounts absent differs ps = ps
 all_others P Q other (id ∷ ids) [] absent differs ps = ps
 all_others P Q other (id ∷ ids) (account ∷ accounts) absent differs ps = (
-    differs id account (by_test (is_same_stream id other) (λ same. absurd (absent 0 (ap (λ (x : StreamId). Some x) ((Decides-stream id other).0 same)))) (λ no. no)) ps.0,
+    differs id account (by_test (is_same_stream id other) (λ same. absurd (absent 0 (ap (λ (x : StreamId). Some x) ((Decides-stream id other).0 same)))) (λ fails. fails)) ps.0,
     all_others P Q other ids accounts (λ n. absent (suc n)) differs ps.1
   )
 
@@ -105,11 +105,11 @@ all_with : (P Q : StreamId → Account → Type 0) (other : StreamId) (change : 
 all_with P Q other change [] accounts distinct same differs ps = ps
 all_with P Q other change (id ∷ ids) [] distinct same differs ps = ps
 all_with P Q other change (id ∷ ids) (account ∷ accounts) distinct same differs ps = by_test (is_same_stream id other)
-    (λ yes. subst (AllStreams Q (id ∷ ids)) (sym (ap (λ (b : Bool). cond b (change account ∷ accounts) (account ∷ with_account ids other change accounts)) yes)) (same id account yes ps.0, all_others P Q other ids accounts (away yes) differs ps.1))
-    (λ no. subst (AllStreams Q (id ∷ ids)) (sym (ap (λ (b : Bool). cond b (change account ∷ accounts) (account ∷ with_account ids other change accounts)) no)) (differs id account no ps.0, all_with P Q other change ids accounts (tail_distinct id ids distinct) same differs ps.1))
+    (λ holds. subst (AllStreams Q (id ∷ ids)) (sym (ap (λ (b : Bool). cond b (change account ∷ accounts) (account ∷ with_account ids other change accounts)) holds)) (same id account holds ps.0, all_others P Q other ids accounts (away holds) differs ps.1))
+    (λ fails. subst (AllStreams Q (id ∷ ids)) (sym (ap (λ (b : Bool). cond b (change account ∷ accounts) (account ∷ with_account ids other change accounts)) fails)) (differs id account fails ps.0, all_with P Q other change ids accounts (tail_distinct id ids distinct) same differs ps.1))
   where
     away : is_same_stream id other ≡ true → (n : ℕ) → ¬ (slice_get ids n ≡ Some other)
-    away yes n at = let e : suc n ≡ 0 = distinct (suc n) 0 other at (ap (λ (x : StreamId). Some x) ((Decides-stream id other).0 yes)) in absurd (omega (arith, e))
+    away holds n at = let e : suc n ≡ 0 = distinct (suc n) 0 other at (ap (λ (x : StreamId). Some x) ((Decides-stream id other).0 holds)) in absurd (omega (arith, e))
 
 some_none : {A : Type 0} (a : A) → Some a ≡ None → ⊥
 some_none a e = cc
@@ -119,8 +119,8 @@ all_without : (P Q : StreamId → Account → Type 0) (other : StreamId) (ids : 
 all_without P Q other [] accounts none differs ps = ps
 all_without P Q other (id ∷ ids) [] none differs ps = ps
 all_without P Q other (id ∷ ids) (account ∷ accounts) none differs ps = by_test (is_same_stream id other)
-    (λ yes. absurd (some_none account (sym (ap (λ (b : Bool). cond b (Some account) (account_of ids other accounts)) yes) ∙ none)))
-    (λ no. (differs id account no ps.0, all_without P Q other ids accounts (sym (ap (λ (b : Bool). cond b (Some account) (account_of ids other accounts)) no) ∙ none) differs ps.1))
+    (λ holds. absurd (some_none account (sym (ap (λ (b : Bool). cond b (Some account) (account_of ids other accounts)) holds) ∙ none)))
+    (λ fails. (differs id account fails ps.0, all_without P Q other ids accounts (sym (ap (λ (b : Bool). cond b (Some account) (account_of ids other accounts)) fails) ∙ none) differs ps.1))
 
 all_as : (P Q : StreamId → Account → Type 0) (ids : List StreamId) (accounts : List Account) → ((id : StreamId) (account : Account) → P id account → Q id account) → AllStreams P ids accounts → AllStreams Q ids accounts
 all_as P Q [] accounts as_well ps = ps
@@ -132,8 +132,8 @@ all_kept : (P : StreamId → Account → Type 0) (other : StreamId) (change : Ac
 all_kept P other change [] accounts keeps ps = ps
 all_kept P other change (id ∷ ids) [] keeps ps = ps
 all_kept P other change (id ∷ ids) (account ∷ accounts) keeps ps = by_test (is_same_stream id other)
-    (λ yes. subst (AllStreams P (id ∷ ids)) (sym (ap (λ (b : Bool). cond b (change account ∷ accounts) (account ∷ with_account ids other change accounts)) yes)) (keeps id account ps.0, ps.1))
-    (λ no. subst (AllStreams P (id ∷ ids)) (sym (ap (λ (b : Bool). cond b (change account ∷ accounts) (account ∷ with_account ids other change accounts)) no)) (ps.0, all_kept P other change ids accounts keeps ps.1))
+    (λ holds. subst (AllStreams P (id ∷ ids)) (sym (ap (λ (b : Bool). cond b (change account ∷ accounts) (account ∷ with_account ids other change accounts)) holds)) (keeps id account ps.0, ps.1))
+    (λ fails. subst (AllStreams P (id ∷ ids)) (sym (ap (λ (b : Bool). cond b (change account ∷ accounts) (account ∷ with_account ids other change accounts)) fails)) (ps.0, all_kept P other change ids accounts keeps ps.1))
 
 -- ---- the laws
 

@@ -1,14 +1,19 @@
 -- A new account of each stream of a catalog.
-use Rattle.std.proofs.Common.{arith, ◌≡◌, ℕ, zero, suc, ◌+◌, ◌<◌, ◌≤◌, List, [], ◌∷◌, ◌++◌, length, map, take, slice_get, get_or, Some, None, refl, sym, ◌∙◌, ap, subst}
+use Rattle.std.proofs.Common.{arith, ◌≡◌, ℕ, zero, suc, ◌+◌, ◌<◌, ◌≤◌, List, [], ◌∷◌, ◌++◌, length, map, take, slice_get, get_or, Option, Some, None, refl, sym, ◌∙◌, ap, subst}
 use Rattle.std.proofs.lemmas.List.{map_push}
 use Rattle.std.specs.List.{AllByRecursion}
 use Rattle.basics.specs.declared.stream.StreamId.{StreamId}
 use Rattle.stream_index.specs.Distinct.{AreDistinct}
+use Rattle.basics.specs.declared.limits.TheConstants.{MOST_STREAMS}
+use Rattle.catalog.specs.Configured.{AreConfigured}
 use Rattle.catalog.specs.Reading.{ids_of}
 use Rattle.catalog.specs.declared.stream.ConfStream.{ConfStream}
 use Rattle.sync_ledger.specs.Accounts.{AllAccounts, new_account, new_accounts, new_lane}
 use Rattle.sync_ledger.specs.Kept.{AreWithin, IsKept, IsLaneWithin, IsWithin}
+use Rattle.sync_ledger.specs.Noted.{Noted, nothing_noted}
 use Rattle.sync_ledger.specs.declared.accounts.Account.{Account}
+use Rattle.sync_ledger.specs.declared.form.StateForm.{StateForm}
+use Rattle.sync_ledger.specs.declared.notes.TheConstants.{MOST_LINES}
 
 no_first : {A : Type 0} (a : A) → None ≡ Some a → ⊥
 no_first a e = cc
@@ -80,3 +85,18 @@ new_are_within ids = record { streams = new_within ids; global = record { since 
 
 pub new_streams : (ids : List StreamId) → length (new_accounts ids).streams ≡ length ids
 new_streams ids = new_length ids
+
+new_kept : (streams : List ConfStream) (form : Option StateForm) → AreConfigured streams → IsKept (nothing_noted (ids_of streams) form)
+new_kept streams form are = record {
+    distinct = are.distinct;
+    few = let long = ids_length streams in omega (arith, are.few, long);
+    streams = new_streams (ids_of streams);
+    lines = omega arith;
+    held = omega arith;
+    within = new_are_within (ids_of streams);
+  }
+
+pub opened_kept : (streams : List ConfStream) (index : List StreamId) (accounts : AllAccounts) (form : Option StateForm) → AreConfigured streams → index ≡ ids_of streams → accounts ≡ new_accounts (ids_of streams) → IsKept (record { ids = index; accounts = accounts; form = form; lines = 0; held = [] })
+opened_kept streams index accounts form are same_ids same_accounts =
+    subst (λ (ids : List StreamId). IsKept (record { ids = ids; accounts = accounts; form = form; lines = 0; held = [] })) (sym same_ids)
+    (subst (λ (a : AllAccounts). IsKept (record { ids = ids_of streams; accounts = a; form = form; lines = 0; held = [] })) (sym same_accounts) (new_kept streams form are))

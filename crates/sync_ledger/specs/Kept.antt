@@ -1,17 +1,18 @@
 -- For private clauses: what every ledger keeps, and accounts by their places.
-use Rattle.std.specs.Prelude.{◌≡◌, ℕ, zero, suc, ◌+◌, ◌<◌, ◌≤◌, List, [], ◌∷◌, length, slice_get, Option, None, Some, option_map, Ok, Err}
+use Rattle.std.specs.Prelude.{◌≡◌, ℕ, zero, suc, ◌+◌, ◌<◌, ◌≤◌, List, [], ◌∷◌, length, slice_get, Option, None, Some, option_map, Result, Ok, Err}
 use Rattle.std.specs.List.{AllByRecursion}
 use Rattle.basics.specs.declared.limits.TheConstants.{MOST_STREAMS}
 use Rattle.basics.specs.declared.stream.StreamId.{StreamId}
 use Rattle.stream_index.specs.Distinct.{AreDistinct}
 use Rattle.json_fields.specs.Answer.{IsAnswer}
+use Rattle.outside.specs.declared.faults.Breach.TheVariants as breach
 use Rattle.outside.specs.declared.faults.Side.{Side}
 use Rattle.airbyte_message.specs.Lanes.{Lane, one, all, lane_of}
 use Rattle.airbyte_message.specs.Messages.{IsMessage}
 use Rattle.airbyte_message.specs.State.{State}
 use Rattle.airbyte_message.specs.declared.message.Message.{Message}
 use Rattle.sync_ledger.specs.Accounts.{AllAccounts, changed_lane, left_pending, none_since, pending_of}
-use Rattle.sync_ledger.specs.Noted.{Noted, counted, heard}
+use Rattle.sync_ledger.specs.Noted.{Noted, counted, heard, heard_in}
 use Rattle.sync_ledger.specs.Judged.{IsRefused, judged_in, judged_told}
 use Rattle.sync_ledger.specs.Told.{told_of}
 use Rattle.sync_ledger.specs.Takes.{LeavesPending}
@@ -26,6 +27,8 @@ use Rattle.sync_ledger.specs.declared.pending.Pending.{Pending}
 use Rattle.sync_ledger.specs.declared.told.Told.{Told}
 use Rattle.sync_ledger.specs.declared.verdict.Verdict.{Verdict}
 use Rattle.sync_ledger.specs.declared.verdict.Verdict.TheVariants as verdict
+use Rattle.sync_ledger.specs.declared.verdict.Echoed.{Echoed}
+use Rattle.sync_ledger.specs.declared.verdict.Echoed.TheVariants as echoed
 use Rattle.sync_ledger.specs.declared.verdict.LedgerFault.{LedgerFault}
 use Rattle.sync_ledger.specs.declared.verdict.LedgerFault.TheVariants as fault
 
@@ -92,14 +95,14 @@ pub record LeavesAt (old : AllAccounts) (at : LanePlace) (got : State) (taken : 
   pub shorter : length left ≤ length (pending_of (lane_at old at))
   pub is : new ≡ changed_at (left_pending left) old at
 
--- a state that is not refused, whose lane has its account here
-pub record GivesState (noted : Noted) (state : State) (at : LanePlace) : Type 0 where
-  pub is : IsPlaceOf noted.ids (lane_of state.kind) (Some at)
-  pub has : HasPlace noted.accounts at
-  pub judges : judged_in noted state.source_count (lane_of state.kind) ≡ Ok verdict.Give
-
 abbrev pub state_noted : State → LanePlace → Noted → Noted
 state_noted state at noted = record (counted noted) { accounts = changed_at none_since noted.accounts at; form = Some (place_form at); held = record { state = state; line = noted.lines + 1 } ∷ [] }
+
+-- a state that is not refused, whose lane has its account here
+pub record GivesState (noted : Noted) (state : State) (at : LanePlace) : Type 0 where
+  pub has : HasPlace noted.accounts at
+  pub judges : judged_in noted state.source_count (lane_of state.kind) ≡ Ok verdict.Give
+  pub notes : state_noted state at noted ≡ heard_in state noted (lane_of state.kind)
 
 -- ---- what a line tells is judged
 
@@ -120,3 +123,8 @@ pub record ReadsTold (from : Side) (line : List ℕ) (heard_is : Told) : Type 0 
   pub found : Option Message
   pub reads : IsAnswer (IsMessage line) found
   pub is : heard_is ≡ told_of from line found
+
+-- a state of the destination that takes this one, if any
+abbrev pub taken_answer : Option State → Result Echoed LedgerFault
+taken_answer (Some taken) = Ok (echoed.State taken)
+taken_answer None = Err (fault.Breach breach.Stranger)

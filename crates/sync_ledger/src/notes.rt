@@ -6,7 +6,7 @@ ghost use Rattle.catalog.specs.Configured.{AreConfigured};
 ghost use Rattle.catalog.specs.Reading.{ids_of};
 ghost use Rattle.sync_ledger.specs.Accounts.{account_of as account_by, all_pending, new_accounts, records_in, status_in};
 ghost use Rattle.sync_ledger.specs.Judged.{IsEchoed, judged_count, judged_in};
-ghost use Rattle.sync_ledger.specs.Kept.{GivesState, HasPlace, HearsTold, IsPlaceOf, IsPlaceOfHeld, RefusesBackTold, RefusesTold, state_noted};
+ghost use Rattle.sync_ledger.specs.Kept.{GivesState, HasPlace, HearsTold, IsPlaceOf, IsPlaceOfHeld, RefusesBackTold, RefusesTold, state_noted, taken_answer};
 ghost use Rattle.sync_ledger.specs.Noted.{form_of as form_by, gave as gave_line, least_line as least_line_of, nothing_noted, saved_form as saved_form_of};
 ghost use Rattle.sync_ledger.specs.declared.told.Told.TheVariants as told;
 
@@ -91,6 +91,16 @@ fn judge_count(place: LanePlace, said: Option<u64>, counted: u64) -> Result<Lane
     match said {
         Some(said) if said != counted => Err(Breach::Miscount { said, counted }),
         _ => Ok(place),
+    }
+}
+
+// A state of the destination that takes this one, if any.
+fn echoed_state(taken: Option<StateMsg>) -> Result<Echoed, LedgerFault>
+    ensures { result ≡ taken_answer taken }
+{
+    match taken {
+        Some(state) => Ok(Echoed::State(state)),
+        None => Err(LedgerFault::Breach(Breach::Stranger)),
     }
 }
 
@@ -282,10 +292,8 @@ impl Notes {
         let Some(place) = place_of(&self.index, got.kind()) else {
             return Err(LedgerFault::Breach(Breach::Stranger));
         };
-        match self.accounts.take(alloc, place, got)? {
-            Some(taken) => Ok(Echoed::State(taken)),
-            None => Err(LedgerFault::Breach(Breach::Stranger)),
-        }
+        let taken = self.accounts.take(alloc, place, got)?;
+        echoed_state(taken)
     }
 
     /// Judges what a line of the destination tells; a state takes one of the source.
