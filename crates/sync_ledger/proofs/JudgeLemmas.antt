@@ -15,8 +15,8 @@ use Rattle.airbyte_message.specs.declared.message.Message.{Message}
 use Rattle.airbyte_message.specs.declared.stream_status.StreamStatus.{StreamStatus}
 use Rattle.sync_ledger.specs.Accounts.{AllAccounts, account_of, changed_lane, left_pending, lane_in, more_since, none_since, pending_of, record_counted, status_noted, with_pending, with_record, with_status}
 use Rattle.sync_ledger.specs.Noted.{Noted, form_of, given, given_in, heard, heard_in, heard_status, is_other_form, pending_in}
-use Rattle.sync_ledger.specs.Judged.{IsStranger, Refuses, RefusesMessage, TakesBack, judged, judged_account, judged_count, judged_in, judged_lane, judged_status, judged_told}
-use Rattle.sync_ledger.specs.Kept.{AreWithin, GivesState, HasPlace, HearsTold, IsKept, IsPlaceOf, IsPlaceOfHeld, LeavesAt, changed_at, changed_nth, lane_at, state_noted}
+use Rattle.sync_ledger.specs.Judged.{IsStranger, Refuses, RefusesLine, RefusesMessage, TakesBack, judged, judged_account, judged_count, judged_in, judged_lane, judged_status, judged_told}
+use Rattle.sync_ledger.specs.Kept.{AreWithin, GivesState, HasPlace, HearsTold, IsKept, IsPlaceOf, IsPlaceOfHeld, LeavesAt, ReadsTold, RefusesTold, changed_at, changed_nth, lane_at, state_noted}
 use Rattle.sync_ledger.specs.Takes.{DiffersFrom, LeavesPending}
 use Rattle.sync_ledger.specs.Told.{told_of, verdict_of}
 use Rattle.sync_ledger.specs.declared.accounts.Account.{Account}
@@ -27,6 +27,8 @@ use Rattle.sync_ledger.specs.declared.form.StateForm.{StateForm}
 use Rattle.sync_ledger.specs.declared.pending.Pending.{Pending}
 use Rattle.sync_ledger.specs.declared.told.Told.{Told}
 use Rattle.sync_ledger.specs.declared.told.Told.TheVariants as told
+use Rattle.sync_ledger.specs.declared.verdict.LedgerFault.{LedgerFault}
+use Rattle.sync_ledger.specs.declared.verdict.LedgerFault.TheVariants as fault
 use Rattle.sync_ledger.specs.declared.verdict.Verdict.{Verdict}
 use Rattle.sync_ledger.specs.declared.verdict.Verdict.TheVariants as verdict
 use Rattle.sync_ledger.proofs.AccountLemmas.{account_at, account_none, by_test, has_place, lane_none, lane_place, one_value, stream_within, with_account_at, with_lane_none, with_lane_place}
@@ -250,3 +252,8 @@ refused_line noted line found heard_is breach.Mixed short reads is refused = ref
 refused_line noted line found heard_is (breach.Miscount said counted) short reads is refused = refused_message noted line found heard_is (breach.Miscount said counted) short reads is refused
 refused_line noted line found heard_is breach.TooLong short reads is refused = absurd (long_told noted heard_is refused)
 refused_line noted line found heard_is breach.Stranger short reads is refused = refused_message noted line found heard_is breach.Stranger short reads is refused
+
+pub refused_if : (noted : Noted) (line : List ℕ) (heard_is : Told) (r : Result Verdict LedgerFault) → nat_lt LONGEST_LINE (length line) ≡ false → ReadsTold side.Source line heard_is → IfErr r (λ why. RefusesTold noted heard_is why) → IfErr r (λ why. RefusesLine noted line why)
+refused_if noted line heard_is (Ok answer) short reads refuses = tt
+refused_if noted line heard_is (Err (fault.Breach why)) short reads refuses = refused_line noted line reads.found heard_is why short reads.reads reads.is refuses
+refused_if noted line heard_is (Err fault.NoMemory) short reads refuses = tt
