@@ -1,5 +1,5 @@
 -- Accounts by their places are those of the streams and of the lanes.
-use Rattle.std.proofs.Common.{arith, ◌≡◌, ℕ, zero, suc, ◌+◌, ◌<◌, ◌≤◌, List, [], ◌∷◌, length, set, slice_get, get_or, Option, None, Some, option_map, Bool, true, false, cond, refl, sym, ◌∙◌, ap, subst}
+use Rattle.std.proofs.Common.{arith, ◌≡◌, ℕ, zero, suc, ◌<◌, List, [], ◌∷◌, length, set, slice_get, get_or, Option, None, Some, option_map, Bool, true, false, cond, refl, sym, ◌∙◌, ap, subst}
 use Rattle.std.specs.List.{AllByRecursion}
 use Rattle.basics.specs.declared.stream.StreamId.{StreamId}
 use Rattle.stream_index.specs.Distinct.{AreDistinct}

@@ -1,5 +1,5 @@
 -- Lines are judged as the accounts at their places say.
-use Rattle.std.proofs.Common.{arith, ◌≡◌, ℕ, zero, suc, ◌+◌, ◌<◌, ◌≤◌, List, [], ◌∷◌, length, slice_get, Option, None, Some, option_map, Result, Ok, Err, Bool, true, false, cond, not, is_some, IfOk, IfErr, nat_eq, nat_lt, refl, sym, ◌∙◌, ap, subst}
+use Rattle.std.proofs.Common.{arith, ◌≡◌, ℕ, zero, suc, ◌+◌, ◌<◌, List, [], ◌∷◌, length, slice_get, Option, None, Some, option_map, Result, Ok, Err, Bool, true, false, cond, not, is_some, IfOk, IfErr, nat_eq, nat_lt, refl, sym, ◌∙◌, ap, subst}
 use Rattle.std.specs.List.{AllByRecursion}
 use Rattle.basics.specs.declared.limits.TheConstants.{LONGEST_LINE}
 use Rattle.basics.specs.declared.stream.StreamId.{StreamId}
@@ -13,12 +13,12 @@ use Rattle.airbyte_message.specs.Messages.{IsMessage}
 use Rattle.airbyte_message.specs.State.{State}
 use Rattle.airbyte_message.specs.declared.message.Message.{Message}
 use Rattle.airbyte_message.specs.declared.stream_status.StreamStatus.{StreamStatus}
-use Rattle.sync_ledger.specs.Accounts.{AllAccounts, account_of, changed_lane, left_pending, lane_in, more_since, none_since, pending_of, record_counted, status_noted, with_pending, with_record, with_status}
-use Rattle.sync_ledger.specs.Noted.{Noted, form_of, given, given_in, heard, heard_in, heard_status, is_other_form, pending_in}
-use Rattle.sync_ledger.specs.Judged.{IsStranger, Refuses, RefusesLine, RefusesMessage, TakesBack, judged, judged_account, judged_count, judged_in, judged_lane, judged_status, judged_told}
-use Rattle.sync_ledger.specs.Kept.{AreWithin, GivesState, HasPlace, HearsTold, IsKept, IsPlaceOf, IsPlaceOfHeld, LeavesAt, ReadsTold, RefusesTold, changed_at, changed_nth, lane_at, state_noted}
+use Rattle.sync_ledger.specs.Accounts.{AllAccounts, account_of, changed_lane, left_pending, lane_in, more_since, none_since, pending_of, with_pending, with_record, with_status}
+use Rattle.sync_ledger.specs.Noted.{Noted, form_of, given, given_in, heard_in, heard_status, is_other_form}
+use Rattle.sync_ledger.specs.Judged.{IsStranger, Refuses, RefusesLine, RefusesMessage, TakesBack, judged_account, judged_count, judged_in, judged_lane, judged_status, judged_told}
+use Rattle.sync_ledger.specs.Kept.{GivesState, HasPlace, HearsTold, IsKept, IsPlaceOf, IsPlaceOfHeld, LeavesAt, ReadsTold, RefusesTold, changed_at, changed_nth, lane_at, state_noted}
 use Rattle.sync_ledger.specs.Takes.{DiffersFrom, LeavesPending}
-use Rattle.sync_ledger.specs.Told.{told_of, verdict_of}
+use Rattle.sync_ledger.specs.Told.{told_of}
 use Rattle.sync_ledger.specs.declared.accounts.Account.{Account}
 use Rattle.sync_ledger.specs.declared.accounts.LaneAccount.{LaneAccount}
 use Rattle.sync_ledger.specs.declared.accounts.LanePlace.{LanePlace}

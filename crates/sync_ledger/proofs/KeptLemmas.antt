@@ -1,7 +1,5 @@
 -- What every ledger keeps stays, whatever is noted.
-use Rattle.std.proofs.Common.{arith, ◌≡◌, ℕ, zero, suc, ◌+◌, ◌<◌, ◌≤◌, List, [], ◌∷◌, ◌++◌, length, length-append, slice_get, Option, None, Some, option_map, refl, sym, ◌∙◌, ap, subst}
-use Rattle.std.specs.List.{AllByRecursion}
-use Rattle.basics.specs.declared.stream.StreamId.{StreamId}
+use Rattle.std.proofs.Common.{arith, ◌≡◌, ℕ, ◌+◌, ◌<◌, ◌≤◌, List, [], ◌∷◌, length, length-append, Option, Some, option_map, refl, ◌∙◌, ap}
 use Rattle.airbyte_message.specs.declared.stream_status.StreamStatus.{StreamStatus}
 use Rattle.sync_ledger.specs.Accounts.{AllAccounts, changed_lane, left_pending, more_since, none_since, pending_of, with_pending, with_record, with_status}
 use Rattle.sync_ledger.specs.Noted.{Noted}

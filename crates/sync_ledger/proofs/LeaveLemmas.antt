@@ -1,12 +1,11 @@
 -- What a state takes of a lane, by the lane's place.
-use Rattle.std.proofs.Common.{◌≡◌, ℕ, ◌<◌, ◌≤◌, List, length, set, slice_get, get_or, Option, None, Some, option_map, Result, Ok, Err, IfOk, IfErr, OnErr, refl, sym, ◌∙◌, ap, subst}
+use Rattle.std.proofs.Common.{◌≡◌, ℕ, ◌<◌, ◌≤◌, List, length, set, get_or, Option, None, Some, option_map, Result, Ok, Err, IfOk, IfErr, OnErr, sym, ◌∙◌, ap, subst}
 use Rattle.basics.specs.declared.memory.NoMemory.{NoMemory}
-use Rattle.outside.specs.declared.faults.Breach.TheVariants as breach
 use Rattle.airbyte_message.specs.Lanes.{lane_of}
 use Rattle.airbyte_message.specs.State.{State}
 use Rattle.sync_ledger.specs.Accounts.{AllAccounts, changed_lane, left_pending, pending_of}
 use Rattle.sync_ledger.specs.Judged.{IsEchoed}
-use Rattle.sync_ledger.specs.Kept.{IsKept, IsPlaceOf, LeavesAt, RefusesBackTold, changed_at, lane_at, taken_answer}
+use Rattle.sync_ledger.specs.Kept.{IsKept, IsPlaceOf, LeavesAt, RefusesBackTold, lane_at, taken_answer}
 use Rattle.sync_ledger.specs.Noted.{Noted}
 use Rattle.sync_ledger.specs.Takes.{LeavesPending}
 use Rattle.sync_ledger.specs.declared.accounts.Account.{Account}
@@ -15,9 +14,7 @@ use Rattle.sync_ledger.specs.declared.accounts.LanePlace.{LanePlace}
 use Rattle.sync_ledger.specs.declared.accounts.LanePlace.TheVariants as place
 use Rattle.sync_ledger.specs.declared.told.Told.TheVariants as told
 use Rattle.sync_ledger.specs.declared.verdict.Echoed.{Echoed}
-use Rattle.sync_ledger.specs.declared.verdict.Echoed.TheVariants as echoed
 use Rattle.sync_ledger.specs.declared.verdict.LedgerFault.{LedgerFault}
-use Rattle.sync_ledger.specs.declared.verdict.LedgerFault.TheVariants as fault
 use Rattle.sync_ledger.proofs.AccountLemmas.{get_is, set_is}
 use Rattle.sync_ledger.proofs.JudgeLemmas.{none_left, stranger_known, taken_back}
 

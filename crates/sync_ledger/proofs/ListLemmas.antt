@@ -1,5 +1,5 @@
 -- What is noted is what the lines say.
-use Rattle.std.proofs.Common.{arith, ◌≡◌, ℕ, zero, suc, ◌+◌, List, [], ◌∷◌, ◌++◌, length, length-append, filter, fold, map, slice_get, Option, None, Some, Bool, true, false, cond, refl, sym, ◌∙◌, ap, subst}
+use Rattle.std.proofs.Common.{arith, ◌≡◌, ℕ, suc, ◌+◌, List, [], ◌∷◌, ◌++◌, length, length-append, filter, map, slice_get, Option, None, Some, Bool, true, false, cond, refl, sym, ◌∙◌, ap, subst}
 use Rattle.std.proofs.lemmas.List.Sums.{fold-append}
 use Rattle.basics.specs.declared.stream.StreamId.{StreamId}
 use Rattle.stream_index.specs.Distinct.{AreDistinct}
@@ -8,14 +8,13 @@ use Rattle.stream_index.proofs.IndexLemmas.{Decides-stream}
 use Rattle.airbyte_message.specs.Lanes.{Lane, one, all, lane_of}
 use Rattle.airbyte_message.specs.State.{State}
 use Rattle.airbyte_message.specs.declared.stream_status.StreamStatus.{StreamStatus}
-use Rattle.sync_ledger.specs.Accounts.{AllAccounts, account_of, changed_lane, left_pending, more_since, new_account, none_since, with_account, with_lane, with_pending, with_record, with_status}
-use Rattle.sync_ledger.specs.Noted.{Noted, form_of, gave, given_in, heard, heard_in, heard_status, nothing_noted}
-use Rattle.sync_ledger.specs.Lists.{AllStreams, IsAccountOf, IsNotedOf, ListLaws, covers_stream, form_after, form_in, is_lane, is_record_of, last_form, last_status, records_of, since, since_after, status_after}
+use Rattle.sync_ledger.specs.Accounts.{account_of, changed_lane, left_pending, new_account, none_since, with_account, with_lane, with_pending, with_record, with_status}
+use Rattle.sync_ledger.specs.Noted.{Noted, gave, given_in, heard, heard_in, heard_status, nothing_noted}
+use Rattle.sync_ledger.specs.Lists.{AllStreams, IsAccountOf, IsNotedOf, ListLaws, form_after, form_in, is_lane, is_record_of, last_form, last_status, since, since_after, status_after}
 use Rattle.sync_ledger.specs.declared.accounts.Account.{Account}
 use Rattle.sync_ledger.specs.declared.accounts.LaneAccount.{LaneAccount}
 use Rattle.sync_ledger.specs.declared.form.StateForm.{StateForm}
 use Rattle.sync_ledger.specs.declared.pending.Pending.{Pending}
-use Rattle.sync_ledger.specs.declared.said.Saying.{Saying}
 use Rattle.sync_ledger.specs.declared.told.Told.{Told}
 use Rattle.sync_ledger.specs.declared.told.Told.TheVariants as told
 use Rattle.sync_ledger.proofs.AccountLemmas.{by_test}

@@ -1,19 +1,17 @@
 -- A new account of each stream of a catalog.
-use Rattle.std.proofs.Common.{arith, ◌≡◌, ℕ, zero, suc, ◌+◌, ◌<◌, ◌≤◌, List, [], ◌∷◌, ◌++◌, length, map, take, slice_get, get_or, Option, Some, None, refl, sym, ◌∙◌, ap, subst}
+use Rattle.std.proofs.Common.{arith, ◌≡◌, ℕ, zero, suc, ◌+◌, ◌<◌, ◌≤◌, List, [], ◌∷◌, ◌++◌, length, map, take, slice_get, Option, Some, None, refl, sym, ◌∙◌, ap, subst}
 use Rattle.std.proofs.lemmas.List.{map_push}
 use Rattle.std.specs.List.{AllByRecursion}
 use Rattle.basics.specs.declared.stream.StreamId.{StreamId}
 use Rattle.stream_index.specs.Distinct.{AreDistinct}
-use Rattle.basics.specs.declared.limits.TheConstants.{MOST_STREAMS}
 use Rattle.catalog.specs.Configured.{AreConfigured}
 use Rattle.catalog.specs.Reading.{ids_of}
 use Rattle.catalog.specs.declared.stream.ConfStream.{ConfStream}
 use Rattle.sync_ledger.specs.Accounts.{AllAccounts, new_account, new_accounts, new_lane}
-use Rattle.sync_ledger.specs.Kept.{AreWithin, IsKept, IsLaneWithin, IsWithin}
-use Rattle.sync_ledger.specs.Noted.{Noted, nothing_noted}
+use Rattle.sync_ledger.specs.Kept.{AreWithin, IsKept, IsWithin}
+use Rattle.sync_ledger.specs.Noted.{nothing_noted}
 use Rattle.sync_ledger.specs.declared.accounts.Account.{Account}
 use Rattle.sync_ledger.specs.declared.form.StateForm.{StateForm}
-use Rattle.sync_ledger.specs.declared.notes.TheConstants.{MOST_LINES}
 
 no_first : {A : Type 0} (a : A) → None ≡ Some a → ⊥
 no_first a e = cc

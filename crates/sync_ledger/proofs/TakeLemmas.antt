@@ -1,9 +1,9 @@
 -- The first state that is the same.
-use Rattle.std.proofs.Common.{arith, ◌≡◌, ℕ, zero, suc, ◌+◌, ◌-◌, ◌<◌, ◌≤◌, List, [], ◌∷◌, ◌++◌, length, take, drop, slice_get, get_or, Option, None, Some, refl, sym, ◌∙◌, ap, subst}
+use Rattle.std.proofs.Common.{arith, ◌≡◌, ℕ, zero, suc, ◌+◌, ◌<◌, ◌≤◌, List, [], ◌∷◌, ◌++◌, length, take, drop, slice_get, None, Some, refl, sym, ◌∙◌, ap, subst}
 use Rattle.std.specs.List.{AllByRecursion}
 use Rattle.airbyte_message.specs.Same.{Same}
 use Rattle.airbyte_message.specs.State.{State}
-use Rattle.sync_ledger.specs.Takes.{DiffersFrom, IsFirstSame, LeavesPending, TakesFirst, TakesState}
+use Rattle.sync_ledger.specs.Takes.{DiffersFrom, IsFirstSame, LeavesPending}
 use Rattle.sync_ledger.specs.declared.pending.Pending.{Pending}
 
 no_first : {A : Type 0} (a : A) → None ≡ Some a → ⊥

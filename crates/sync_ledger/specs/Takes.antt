@@ -1,6 +1,6 @@
 -- Which state of the source a state of the destination takes: the first of its lane that is the same, among those that were
 -- given. Those of the lane before it are passed over.
-use Rattle.std.specs.Prelude.{◌≡◌, ℕ, ◌<◌, List, [], ◌∷◌, ◌++◌, length, take, slice_get, Option, None, Some}
+use Rattle.std.specs.Prelude.{◌≡◌, ℕ, List, ◌∷◌, ◌++◌, take, slice_get, Option, None, Some}
 use Rattle.std.specs.List.{AllByRecursion}
 use Rattle.airbyte_message.specs.Same.{Same}
 use Rattle.airbyte_message.specs.State.{State}

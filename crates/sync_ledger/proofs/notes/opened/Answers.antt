@@ -1,4 +1,4 @@
-use Rattle.std.proofs.Common.{◌≡◌, Some, slice_get, sym, ◌∙◌, ap, Bool, true, false}
+use Rattle.std.proofs.Common.{◌≡◌, Some, slice_get, sym, ◌∙◌, ap, true, false}
 use Rattle.basics.specs.declared.stream.StreamId.{StreamId}
 use Rattle.catalog.specs.Reading.{ids_of}
 use Rattle.sync_ledger.proofs.OpenLemmas.{absent_before, accounts_more, id_at, index_more}

@@ -1,4 +1,4 @@
-use Rattle.std.proofs.Common.{◌≡◌, ◌∷◌, IsTrue, sym, ◌∙◌, Bool, true, false}
+use Rattle.std.proofs.Common.{◌≡◌, sym, ◌∙◌, true, false}
 use Rattle.sync_ledger.proofs.TakeLemmas.{all_passed, first_found, one_passed}
 use Rattle.sync_ledger.proofs.pending.first_same.Goals as goal
 

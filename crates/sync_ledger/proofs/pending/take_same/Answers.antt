@@ -1,4 +1,4 @@
-use Rattle.std.proofs.Common.{◌≡◌, ◌∷◌, Some, IfSome, sym, ◌∙◌, subst, ℕ, Option}
+use Rattle.std.proofs.Common.{IfSome, sym, ◌∙◌, subst, ℕ, Option}
 use Rattle.sync_ledger.specs.Takes.{IsFirstSame}
 use Rattle.sync_ledger.proofs.TakeLemmas.{first_taken}
 use Rattle.sync_ledger.proofs.pending.take_same.Goals as goal

@@ -1,10 +1,9 @@
-use Rattle.std.proofs.Common.{◌≡◌, ◌<◌, List, length, set, sym, ◌∙◌, ap, subst}
-use Rattle.sync_ledger.specs.Accounts.{AllAccounts, changed_lane, none_since, with_pending}
+use Rattle.std.proofs.Common.{◌<◌, List, length, set, sym, ◌∙◌, ap, subst}
+use Rattle.sync_ledger.specs.Accounts.{AllAccounts, changed_lane, none_since}
 use Rattle.sync_ledger.specs.Kept.{HasPlace, changed_at}
 use Rattle.sync_ledger.specs.declared.accounts.Account.{Account}
 use Rattle.sync_ledger.specs.declared.accounts.LaneAccount.{LaneAccount}
 use Rattle.sync_ledger.specs.declared.accounts.LanePlace.{LanePlace}
-use Rattle.sync_ledger.specs.declared.accounts.LanePlace.TheVariants as place
 use Rattle.sync_ledger.proofs.AccountLemmas.{set_is}
 use Rattle.sync_ledger.proofs.accounts.Accounts.count_anew.Goals as goal
 

@@ -1,4 +1,4 @@
-use Rattle.std.proofs.Common.{◌≡◌, ◌<◌, List, length, set, sym, ◌∙◌, ap, subst}
+use Rattle.std.proofs.Common.{◌<◌, List, length, set, sym, ◌∙◌, ap, subst}
 use Rattle.sync_ledger.specs.Accounts.{AllAccounts, more_since, with_record}
 use Rattle.sync_ledger.specs.Kept.{changed_nth}
 use Rattle.sync_ledger.specs.declared.accounts.Account.{Account}

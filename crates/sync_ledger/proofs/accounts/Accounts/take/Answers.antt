@@ -1,9 +1,6 @@
-use Rattle.std.proofs.Common.{◌≡◌, ◌<◌, List, length, set, sym, ◌∙◌, ap, subst, IfOk, Option}
-use Rattle.airbyte_message.specs.State.{State}
+use Rattle.std.proofs.Common.{◌<◌, length, set, sym, subst, IfOk}
 use Rattle.sync_ledger.specs.Accounts.{AllAccounts}
 use Rattle.sync_ledger.specs.Kept.{HasPlace, LeavesAt}
-use Rattle.sync_ledger.specs.declared.accounts.Account.{Account}
-use Rattle.sync_ledger.specs.declared.accounts.LaneAccount.{LaneAccount}
 use Rattle.sync_ledger.specs.declared.accounts.LanePlace.{LanePlace}
 use Rattle.sync_ledger.specs.declared.accounts.LanePlace.TheVariants as place
 use Rattle.sync_ledger.proofs.LeaveLemmas.{leaves_stream}

@@ -1,11 +1,8 @@
-use Rattle.std.proofs.Common.{arith, ◌≡◌, ℕ, ◌+◌, ◌<◌, ◌≤◌, List, [], length, Option, Some, None, sym, ◌∙◌, ap, subst}
-use Rattle.sync_ledger.specs.Accounts.{AllAccounts, more_since, none_since, with_pending, with_record, with_status}
-use Rattle.sync_ledger.specs.Kept.{HearsTold, IsKept, IsPlaceOf, LeavesAt, changed_at, changed_nth}
-use Rattle.sync_ledger.specs.Noted.{Noted, gave, given}
-use Rattle.sync_ledger.specs.declared.notes.TheConstants.{MOST_LINES}
+use Rattle.std.proofs.Common.{List, [], sym, ◌∙◌, ap, subst}
+use Rattle.sync_ledger.specs.Accounts.{AllAccounts}
+use Rattle.sync_ledger.specs.Kept.{IsKept}
+use Rattle.sync_ledger.specs.Noted.{Noted, gave}
 use Rattle.sync_ledger.specs.declared.pending.Pending.{Pending}
-use Rattle.sync_ledger.specs.declared.told.Told.TheVariants as told
-use Rattle.sync_ledger.specs.declared.verdict.Verdict.TheVariants as verdict
 use Rattle.sync_ledger.proofs.JudgeLemmas.{given_at, given_none}
 use Rattle.sync_ledger.proofs.KeptLemmas.{kept_given, kept_none}
 use Rattle.sync_ledger.proofs.notes.Notes.gave.Goals as goal

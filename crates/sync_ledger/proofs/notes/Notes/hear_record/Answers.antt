@@ -1,7 +1,7 @@
-use Rattle.std.proofs.Common.{arith, ◌≡◌, ℕ, ◌+◌, ◌<◌, ◌≤◌, List, [], length, Option, Some, None, sym, ◌∙◌, ap, subst}
-use Rattle.sync_ledger.specs.Accounts.{AllAccounts, more_since, none_since, with_pending, with_record, with_status}
-use Rattle.sync_ledger.specs.Kept.{HearsTold, IsKept, IsPlaceOf, LeavesAt, changed_at, changed_nth}
-use Rattle.sync_ledger.specs.Noted.{Noted, gave, given}
+use Rattle.std.proofs.Common.{arith, ◌≡◌, ◌+◌, ◌<◌, List, [], length, sym, ◌∙◌, ap, subst}
+use Rattle.sync_ledger.specs.Accounts.{AllAccounts}
+use Rattle.sync_ledger.specs.Kept.{HearsTold, IsKept}
+use Rattle.sync_ledger.specs.Noted.{Noted}
 use Rattle.sync_ledger.specs.declared.notes.TheConstants.{MOST_LINES}
 use Rattle.sync_ledger.specs.declared.pending.Pending.{Pending}
 use Rattle.sync_ledger.specs.declared.told.Told.TheVariants as told

@@ -1,4 +1,4 @@
-use Rattle.std.proofs.Common.{List, [], sym, subst}
+use Rattle.std.proofs.Common.{List, sym, subst}
 use Rattle.sync_ledger.specs.Kept.{IsKept}
 use Rattle.sync_ledger.specs.declared.pending.Pending.{Pending}
 use Rattle.sync_ledger.proofs.OpenLemmas.{opened_kept}

@@ -1,5 +1,4 @@
-use Rattle.std.proofs.Common.{◌≡◌, Some, Option, slice_get, sym, ◌∙◌, ap, subst}
-use Rattle.basics.specs.declared.stream.StreamId.{StreamId}
+use Rattle.std.proofs.Common.{◌≡◌, Some, Option, slice_get, sym, ◌∙◌, ap}
 use Rattle.sync_ledger.specs.Accounts.{account_of, records_in}
 use Rattle.sync_ledger.specs.Noted.{Noted}
 use Rattle.sync_ledger.specs.declared.accounts.Account.{Account}

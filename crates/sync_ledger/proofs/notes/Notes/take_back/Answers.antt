@@ -1,19 +1,13 @@
-use Rattle.std.proofs.Common.{arith, ◌≡◌, ℕ, ◌+◌, ◌<◌, ◌≤◌, List, [], ◌∷◌, length, Option, Some, None, option_map, Result, Ok, Err, IfOk, IfErr, OnErr, sym, ◌∙◌, ap, subst, not, is_some, Bool, true, false}
-use Rattle.outside.specs.declared.faults.Breach.TheVariants as breach
+use Rattle.std.proofs.Common.{◌≡◌, Some, None, option_map, IfOk, IfErr, OnErr, ◌∙◌, ap, subst}
 use Rattle.airbyte_message.specs.Lanes.{lane_of}
 use Rattle.airbyte_message.specs.declared.message.StateKind.{StateKind}
-use Rattle.sync_ledger.specs.Accounts.{AllAccounts, more_since, none_since, with_pending, with_record, with_status}
-use Rattle.sync_ledger.specs.Judged.{IsEchoed, IsStranger, judged_count, judged_in, judged_told}
-use Rattle.sync_ledger.specs.Kept.{GivesState, HearsTold, IsKept, IsPlaceOf, LeavesAt, RefusesBackTold, changed_at, changed_nth}
+use Rattle.sync_ledger.specs.Judged.{IsEchoed, IsStranger}
+use Rattle.sync_ledger.specs.Kept.{IsPlaceOf, RefusesBackTold}
 use Rattle.sync_ledger.specs.Noted.{Noted, form_of}
-use Rattle.sync_ledger.specs.declared.notes.TheConstants.{MOST_LINES}
-use Rattle.sync_ledger.specs.declared.pending.Pending.{Pending}
 use Rattle.sync_ledger.specs.declared.told.Told.TheVariants as told
-use Rattle.sync_ledger.specs.declared.verdict.Verdict.TheVariants as verdict
 use Rattle.sync_ledger.proofs.AccountLemmas.{has_place}
 use Rattle.sync_ledger.proofs.JudgeLemmas.{kept_back, none_not, stranger_unknown}
 use Rattle.sync_ledger.proofs.LeaveLemmas.{back_err, back_ok, back_refused}
-use Rattle.sync_ledger.specs.declared.form.StateForm.{StateForm}
 use Rattle.sync_ledger.proofs.notes.Notes.take_back.Goals as goal
 
 pub returns-in_default-clause-refused : goal.returns-in_default-clause-refused
