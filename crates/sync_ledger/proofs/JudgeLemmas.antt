@@ -59,9 +59,9 @@ pub record_heard : (noted now : Noted) (id : StreamId) (n : ℕ) → IsKept note
     → now ≡ record { ids = noted.ids; accounts = record { streams = changed_nth with_record noted.accounts.streams n; global = more_since noted.accounts.global }; form = noted.form; lines = noted.lines + 1; held = [] }
     → HearsTold noted (told.Record id) verdict.Give now
 record_heard noted now id n kept at is = record {
-    judges = ap judged_account (account_there noted id n kept at).1;
-    notes = is ∙ ap (λ (found : List Account). record { ids = noted.ids; accounts = record { streams = found; global = more_since noted.accounts.global }; form = noted.form; lines = noted.lines + 1; held = [] }) (sym (with_account_at noted.ids id with_record noted.accounts.streams n kept.distinct kept.streams at));
-  }
+  judges = ap judged_account (account_there noted id n kept at).1;
+  notes = is ∙ ap (λ (found : List Account). record { ids = noted.ids; accounts = record { streams = found; global = more_since noted.accounts.global }; form = noted.form; lines = noted.lines + 1; held = [] }) (sym (with_account_at noted.ids id with_record noted.accounts.streams n kept.distinct kept.streams at));
+}
 
 -- ---- statuses
 
@@ -73,7 +73,7 @@ status_heard noted now id status n kept at is =
     record {
       judges = ap (λ (found : Option Account). Ok (judged_status found)) there.1;
       notes = is ∙ (ap (λ (found : List Account). record { ids = noted.ids; accounts = record noted.accounts { streams = found }; form = noted.form; lines = noted.lines + 1; held = [] }) (sym (with_account_at noted.ids id (with_status status) noted.accounts.streams n kept.distinct kept.streams at))
-      ∙ ap (λ (found : Option Account). heard_status id status noted found) (sym there.1));
+          ∙ ap (λ (found : Option Account). heard_status id status noted found) (sym there.1));
     }
 
 pub status_passed : (noted now : Noted) (id : StreamId) (status : StreamStatus) → ((n : ℕ) → ¬ (slice_get noted.ids n ≡ Some id))
@@ -115,10 +115,10 @@ state_is noted state (Some all) place.Global kept here = refl
 
 pub gives_state : (noted : Noted) (state : State) (form : StateForm) (at : LanePlace) (since : ℕ) → IsKept noted → Some form ≡ option_map form_of (lane_of state.kind) → is_other_form form noted.form ≡ false → IsPlaceOf noted.ids (lane_of state.kind) (Some at) → Some since ≡ option_map (λ account. account.since) (lane_at noted.accounts at) → judged_count state.source_count since ≡ Ok verdict.Give → GivesState noted state at
 gives_state noted state form at since kept is same here counted gives = record {
-    has = has_place noted.ids noted.accounts (lane_of state.kind) at kept.streams here;
-    judges = judged_known noted state.source_count (lane_of state.kind) form at since kept is same here counted ∙ gives;
-    notes = state_is noted state (lane_of state.kind) at kept here;
-  }
+  has = has_place noted.ids noted.accounts (lane_of state.kind) at kept.streams here;
+  judges = judged_known noted state.source_count (lane_of state.kind) form at since kept is same here counted ∙ gives;
+  notes = state_is noted state (lane_of state.kind) at kept here;
+}
 
 pub gives_if : (noted : Noted) (state : State) (at : LanePlace) (r : Result LanePlace Breach) (said : Option ℕ) (counted : ℕ) → IfOk r (λ found. (found ≡ at) × (judged_count said counted ≡ Ok verdict.Give)) → (judged_count said counted ≡ Ok verdict.Give → GivesState noted state at) → IfOk r (λ found. GivesState noted state found)
 gives_if noted state at (Err why) said counted is gives = tt
@@ -175,10 +175,10 @@ kept_back noted new at got taken kept leaves =
 stranger_in : (noted : Noted) (got : State) (lane : Option Lane) → lane_of got.kind ≡ lane → (option_map form_of lane ≡ None → ⊥) → IsPlaceOf noted.ids lane None → IsStranger noted got
 stranger_in noted got None at there absent = absurd (there refl)
 stranger_in noted got (Some lane) at there absent = record {
-    lane = lane;
-    of_lane = at;
-    others = subst (λ (found : Option LaneAccount). AllByRecursion (DiffersFrom got) (pending_of found)) (sym (lane_none noted.ids noted.accounts lane absent)) tt;
-  }
+  lane = lane;
+  of_lane = at;
+  others = subst (λ (found : Option LaneAccount). AllByRecursion (DiffersFrom got) (pending_of found)) (sym (lane_none noted.ids noted.accounts lane absent)) tt;
+}
 
 pub stranger_unknown : (noted : Noted) (got : State) → (option_map form_of (lane_of got.kind) ≡ None → ⊥) → IsPlaceOf noted.ids (lane_of got.kind) None → IsStranger noted got
 stranger_unknown noted got there absent = stranger_in noted got (lane_of got.kind) refl there absent
@@ -186,10 +186,10 @@ stranger_unknown noted got there absent = stranger_in noted got (lane_of got.kin
 strange_in : (noted : Noted) (got : State) (lane : Option Lane) (at : LanePlace) (new : AllAccounts) → IsKept noted → lane_of got.kind ≡ lane → IsPlaceOf noted.ids lane (Some at) → LeavesAt noted.accounts at got None new → IsStranger noted got
 strange_in noted got None at new kept of here leaves = absurd (some_none at here)
 strange_in noted got (Some lane) at new kept of here leaves = record {
-    lane = lane;
-    of_lane = of;
-    others = subst (λ (found : Option LaneAccount). AllByRecursion (DiffersFrom got) (pending_of found)) (sym (lane_place noted.ids noted.accounts lane at kept.distinct kept.streams here)) leaves.takes.0;
-  }
+  lane = lane;
+  of_lane = of;
+  others = subst (λ (found : Option LaneAccount). AllByRecursion (DiffersFrom got) (pending_of found)) (sym (lane_place noted.ids noted.accounts lane at kept.distinct kept.streams here)) leaves.takes.0;
+}
 
 pub stranger_known : (noted : Noted) (got : State) (at : LanePlace) (new : AllAccounts) → IsKept noted → IsPlaceOf noted.ids (lane_of got.kind) (Some at) → LeavesAt noted.accounts at got None new → IsStranger noted got
 stranger_known noted got at new kept here leaves = strange_in noted got (lane_of got.kind) at new kept refl here leaves
@@ -197,12 +197,12 @@ stranger_known noted got at new kept here leaves = strange_in noted got (lane_of
 back_in : (noted : Noted) (got taken : State) (lane : Option Lane) (at : LanePlace) (new : AllAccounts) → IsKept noted → lane_of got.kind ≡ lane → IsPlaceOf noted.ids lane (Some at) → LeavesAt noted.accounts at got (Some taken) new → TakesBack noted got taken (record { ids = noted.ids; accounts = new; form = noted.form; lines = noted.lines; held = noted.held })
 back_in noted got taken None at new kept of here leaves = absurd (some_none at here)
 back_in noted got taken (Some lane) at new kept of here leaves = record {
-    lane = lane;
-    of_lane = of;
-    left = leaves.left;
-    takes = subst (λ (found : Option LaneAccount). LeavesPending (pending_of found) got (Some taken) leaves.left) (sym (lane_place noted.ids noted.accounts lane at kept.distinct kept.streams here)) leaves.takes;
-    notes = ap (λ (accounts : AllAccounts). record { ids = noted.ids; accounts = accounts; form = noted.form; lines = noted.lines; held = noted.held }) (leaves.is ∙ sym (with_lane_place noted.ids noted.accounts lane at (left_pending leaves.left) kept.distinct kept.streams here));
-  }
+  lane = lane;
+  of_lane = of;
+  left = leaves.left;
+  takes = subst (λ (found : Option LaneAccount). LeavesPending (pending_of found) got (Some taken) leaves.left) (sym (lane_place noted.ids noted.accounts lane at kept.distinct kept.streams here)) leaves.takes;
+  notes = ap (λ (accounts : AllAccounts). record { ids = noted.ids; accounts = accounts; form = noted.form; lines = noted.lines; held = noted.held }) (leaves.is ∙ sym (with_lane_place noted.ids noted.accounts lane at (left_pending leaves.left) kept.distinct kept.streams here));
+}
 
 pub taken_back : (noted : Noted) (got taken : State) (at : LanePlace) (new : AllAccounts) → IsKept noted → IsPlaceOf noted.ids (lane_of got.kind) (Some at) → LeavesAt noted.accounts at got (Some taken) new → TakesBack noted got taken (record { ids = noted.ids; accounts = new; form = noted.form; lines = noted.lines; held = noted.held })
 taken_back noted got taken at new kept here leaves = back_in noted got taken (lane_of got.kind) at new kept refl here leaves
@@ -240,10 +240,10 @@ long_told noted (told.Other saying) is = cc
 -- a line that is refused, and is not too long
 refused_message : (noted : Noted) (line : List ℕ) (found : Option Message) (heard_is : Told) (why : Breach) → nat_lt LONGEST_LINE (length line) ≡ false → IsAnswer (IsMessage line) found → heard_is ≡ told_of side.Source line found → judged_told noted heard_is ≡ Err why → RefusesMessage noted line why
 refused_message noted line found heard_is why short reads is refused = record {
-    found = found;
-    reads = reads;
-    judges = ap (λ (b : Bool). cond b (Err breach.TooLong) (judged_told noted (told_of side.Source line found))) short ∙ (ap (judged_told noted) (sym is) ∙ refused);
-  }
+  found = found;
+  reads = reads;
+  judges = ap (λ (b : Bool). cond b (Err breach.TooLong) (judged_told noted (told_of side.Source line found))) short ∙ (ap (judged_told noted) (sym is) ∙ refused);
+}
 
 pub refused_line : (noted : Noted) (line : List ℕ) (found : Option Message) (heard_is : Told) (why : Breach) → nat_lt LONGEST_LINE (length line) ≡ false → IsAnswer (IsMessage line) found → heard_is ≡ told_of side.Source line found → judged_told noted heard_is ≡ Err why → Refuses noted line why
 refused_line noted line found heard_is breach.UnknownStream short reads is refused = refused_message noted line found heard_is breach.UnknownStream short reads is refused

@@ -30,7 +30,7 @@ leaves_stream old n account lane got (Ok taken) within is takes shorter since =
       takes = subst (λ (found : Option LaneAccount). LeavesPending (pending_of found) got taken lane.pending) (sym here) takes;
       shorter = subst (λ (found : Option LaneAccount). length lane.pending ≤ length (pending_of found)) (sym here) shorter;
       is = ap (λ (l : LaneAccount). record { streams = set old.streams n (record { records = account.records; status = account.status; lane = l }); global = old.global }) changed
-      ∙ ap (λ (found : List Account). record { streams = found; global = old.global }) (set_is (changed_lane (left_pending lane.pending)) old.streams n account within is);
+          ∙ ap (λ (found : List Account). record { streams = found; global = old.global }) (set_is (changed_lane (left_pending lane.pending)) old.streams n account within is);
     }
 
 -- what the ledger is then

@@ -51,37 +51,37 @@ Of lines id account = IsAccountOf id lines account
 -- a line that says nothing of the stream
 stays : (lines : List Told) (line : Told) (id : StreamId) (account : Account) → is_record_of id line ≡ false → status_after id (last_status id lines) line ≡ last_status id lines → since_after (one id) (since (one id) lines) line ≡ since (one id) lines → Of lines id account → Of (lines ++ line ∷ []) id account
 stays lines line id account fails status count is = record {
-    records = is.records ∙ sym (filter_no (is_record_of id) lines line fails);
-    status = is.status ∙ sym (status_more id lines line ∙ status);
-    since = is.since ∙ sym (since_more (one id) lines line ∙ count);
-  }
+  records = is.records ∙ sym (filter_no (is_record_of id) lines line fails);
+  status = is.status ∙ sym (status_more id lines line ∙ status);
+  since = is.since ∙ sym (since_more (one id) lines line ∙ count);
+}
 
 record_of_it : (lines : List Told) (other id : StreamId) (account : Account) → is_same_stream id other ≡ true → Of lines id account → Of (lines ++ told.Record other ∷ []) id (with_record account)
 record_of_it lines other id account same is = record {
-    records = ap (λ (n : ℕ). n + 1) is.records ∙ sym (filter_yes (is_record_of id) lines (told.Record other) same);
-    status = is.status ∙ sym (status_more id lines (told.Record other));
-    since = ap (λ (n : ℕ). n + 1) is.since ∙ sym (since_more (one id) lines (told.Record other) ∙ ap (λ (b : Bool). cond b (since (one id) lines + 1) (since (one id) lines)) same);
-  }
+  records = ap (λ (n : ℕ). n + 1) is.records ∙ sym (filter_yes (is_record_of id) lines (told.Record other) same);
+  status = is.status ∙ sym (status_more id lines (told.Record other));
+  since = ap (λ (n : ℕ). n + 1) is.since ∙ sym (since_more (one id) lines (told.Record other) ∙ ap (λ (b : Bool). cond b (since (one id) lines + 1) (since (one id) lines)) same);
+}
 
 record_of_other : (lines : List Told) (other id : StreamId) (account : Account) → is_same_stream id other ≡ false → Of lines id account → Of (lines ++ told.Record other ∷ []) id account
 record_of_other lines other id account differs is = stays lines (told.Record other) id account differs refl (ap (λ (b : Bool). cond b (since (one id) lines + 1) (since (one id) lines)) differs) is
 
 state_of_it : (lines : List Told) (state : State) (id : StreamId) (account : Account) → is_lane (one id) (lane_of state.kind) ≡ true → Of lines id account → Of (lines ++ told.State state ∷ []) id (changed_lane none_since account)
 state_of_it lines state id account same is = record {
-    records = is.records ∙ sym (filter_no (is_record_of id) lines (told.State state) refl);
-    status = is.status ∙ sym (status_more id lines (told.State state));
-    since = sym (since_more (one id) lines (told.State state) ∙ ap (λ (b : Bool). cond b 0 (since (one id) lines)) same);
-  }
+  records = is.records ∙ sym (filter_no (is_record_of id) lines (told.State state) refl);
+  status = is.status ∙ sym (status_more id lines (told.State state));
+  since = sym (since_more (one id) lines (told.State state) ∙ ap (λ (b : Bool). cond b 0 (since (one id) lines)) same);
+}
 
 state_of_other : (lines : List Told) (state : State) (id : StreamId) (account : Account) → is_lane (one id) (lane_of state.kind) ≡ false → Of lines id account → Of (lines ++ told.State state ∷ []) id account
 state_of_other lines state id account differs is = stays lines (told.State state) id account refl refl (ap (λ (b : Bool). cond b 0 (since (one id) lines)) differs) is
 
 status_of_it : (lines : List Told) (status : StreamStatus) (other id : StreamId) (account : Account) → is_same_stream id other ≡ true → Of lines id account → Of (lines ++ told.Status other status ∷ []) id (with_status status account)
 status_of_it lines status other id account same is = record {
-    records = is.records ∙ sym (filter_no (is_record_of id) lines (told.Status other status) refl);
-    status = sym (status_more id lines (told.Status other status) ∙ ap (λ (b : Bool). cond b (Some status) (last_status id lines)) same);
-    since = is.since ∙ sym (since_more (one id) lines (told.Status other status));
-  }
+  records = is.records ∙ sym (filter_no (is_record_of id) lines (told.Status other status) refl);
+  status = sym (status_more id lines (told.Status other status) ∙ ap (λ (b : Bool). cond b (Some status) (last_status id lines)) same);
+  since = is.since ∙ sym (since_more (one id) lines (told.Status other status));
+}
 
 status_of_other : (lines : List Told) (status : StreamStatus) (other id : StreamId) (account : Account) → is_same_stream id other ≡ false → Of lines id account → Of (lines ++ told.Status other status ∷ []) id account
 status_of_other lines status other id account differs is = stays lines (told.Status other status) id account refl (ap (λ (b : Bool). cond b (Some status) (last_status id lines)) differs) refl is
@@ -95,9 +95,9 @@ all_others : (P Q : StreamId → Account → Type 0) (other : StreamId) (ids : L
 all_others P Q other [] accounts absent differs ps = ps
 all_others P Q other (id ∷ ids) [] absent differs ps = ps
 all_others P Q other (id ∷ ids) (account ∷ accounts) absent differs ps = (
-    differs id account (by_test (is_same_stream id other) (λ same. absurd (absent 0 (ap (λ (x : StreamId). Some x) ((Decides-stream id other).0 same)))) (λ fails. fails)) ps.0,
-    all_others P Q other ids accounts (λ n. absent (suc n)) differs ps.1
-  )
+  differs id account (by_test (is_same_stream id other) (λ same. absurd (absent 0 (ap (λ (x : StreamId). Some x) ((Decides-stream id other).0 same)))) (λ fails. fails)) ps.0,
+  all_others P Q other ids accounts (λ n. absent (suc n)) differs ps.1,
+)
 
 -- where the account of one stream is changed
 all_with : (P Q : StreamId → Account → Type 0) (other : StreamId) (change : Account → Account) (ids : List StreamId) (accounts : List Account) → AreDistinct ids → ((id : StreamId) (account : Account) → is_same_stream id other ≡ true → P id account → Q id (change account)) → ((id : StreamId) (account : Account) → is_same_stream id other ≡ false → P id account → Q id account) → AllStreams P ids accounts → AllStreams Q ids (with_account ids other change accounts)
@@ -149,19 +149,19 @@ begins ids saved = record { accounts = all_new ids; global = refl; form = refl; 
 -- a line that leaves all accounts as they are
 nothing_heard : (saved : Option StateForm) (lines : List Told) (line : Told) (noted : Noted) → ((id : StreamId) (account : Account) → Of lines id account → Of (lines ++ line ∷ []) id account) → since_after all (since all lines) line ≡ since all lines → form_after (last_form saved lines) line ≡ last_form saved lines → IsNotedOf saved lines noted → IsNotedOf saved (lines ++ line ∷ []) (record noted { lines = noted.lines + 1 })
 nothing_heard saved lines line noted same count form is = record {
-    accounts = all_as (Of lines) (Of (lines ++ line ∷ [])) noted.ids noted.accounts.streams same is.accounts;
-    global = is.global ∙ sym (since_more all lines line ∙ count);
-    form = is.form ∙ sym (form_more saved lines line ∙ form);
-    number = one_more lines line noted.lines is.number;
-  }
+  accounts = all_as (Of lines) (Of (lines ++ line ∷ [])) noted.ids noted.accounts.streams same is.accounts;
+  global = is.global ∙ sym (since_more all lines line ∙ count);
+  form = is.form ∙ sym (form_more saved lines line ∙ form);
+  number = one_more lines line noted.lines is.number;
+}
 
 hears_record : (saved : Option StateForm) (lines : List Told) (id : StreamId) (noted : Noted) → AreDistinct noted.ids → IsNotedOf saved lines noted → IsNotedOf saved (lines ++ told.Record id ∷ []) (heard noted (told.Record id))
 hears_record saved lines id noted distinct is = record {
-    accounts = all_with (Of lines) (Of (lines ++ told.Record id ∷ [])) id with_record noted.ids noted.accounts.streams distinct (record_of_it lines id) (record_of_other lines id) is.accounts;
-    global = ap (λ (n : ℕ). n + 1) is.global ∙ sym (since_more all lines (told.Record id));
-    form = is.form ∙ sym (form_more saved lines (told.Record id));
-    number = one_more lines (told.Record id) noted.lines is.number;
-  }
+  accounts = all_with (Of lines) (Of (lines ++ told.Record id ∷ [])) id with_record noted.ids noted.accounts.streams distinct (record_of_it lines id) (record_of_other lines id) is.accounts;
+  global = ap (λ (n : ℕ). n + 1) is.global ∙ sym (since_more all lines (told.Record id));
+  form = is.form ∙ sym (form_more saved lines (told.Record id));
+  number = one_more lines (told.Record id) noted.lines is.number;
+}
 
 hears_state : (saved : Option StateForm) (lines : List Told) (state : State) (noted : Noted) (lane : Option Lane) → lane_of state.kind ≡ lane → AreDistinct noted.ids → IsNotedOf saved lines noted → IsNotedOf saved (lines ++ told.State state ∷ []) (heard_in state noted lane)
 hears_state saved lines state noted None at distinct is = nothing_heard saved lines (told.State state) noted
@@ -169,33 +169,33 @@ hears_state saved lines state noted None at distinct is = nothing_heard saved li
     (ap (λ (l : Option Lane). cond (is_lane all l) 0 (since all lines)) at)
     (ap (λ (l : Option Lane). form_in (last_form saved lines) l) at) is
 hears_state saved lines state noted (Some (one other)) at distinct is = record {
-    accounts = all_with (Of lines) (Of (lines ++ told.State state ∷ [])) other (changed_lane none_since) noted.ids noted.accounts.streams distinct
-    (λ id account same. state_of_it lines state id account (ap (λ (l : Option Lane). is_lane (one id) l) at ∙ same))
-    (λ id account differs. state_of_other lines state id account (ap (λ (l : Option Lane). is_lane (one id) l) at ∙ differs)) is.accounts;
-    global = is.global ∙ sym (since_more all lines (told.State state) ∙ ap (λ (l : Option Lane). cond (is_lane all l) 0 (since all lines)) at);
-    form = sym (form_more saved lines (told.State state) ∙ ap (λ (l : Option Lane). form_in (last_form saved lines) l) at);
-    number = one_more lines (told.State state) noted.lines is.number;
-  }
+  accounts = all_with (Of lines) (Of (lines ++ told.State state ∷ [])) other (changed_lane none_since) noted.ids noted.accounts.streams distinct
+      (λ id account same. state_of_it lines state id account (ap (λ (l : Option Lane). is_lane (one id) l) at ∙ same))
+      (λ id account differs. state_of_other lines state id account (ap (λ (l : Option Lane). is_lane (one id) l) at ∙ differs)) is.accounts;
+  global = is.global ∙ sym (since_more all lines (told.State state) ∙ ap (λ (l : Option Lane). cond (is_lane all l) 0 (since all lines)) at);
+  form = sym (form_more saved lines (told.State state) ∙ ap (λ (l : Option Lane). form_in (last_form saved lines) l) at);
+  number = one_more lines (told.State state) noted.lines is.number;
+}
 hears_state saved lines state noted (Some all) at distinct is = record {
-    accounts = all_as (Of lines) (Of (lines ++ told.State state ∷ [])) noted.ids noted.accounts.streams (λ id account. state_of_other lines state id account (ap (λ (l : Option Lane). is_lane (one id) l) at)) is.accounts;
-    global = sym (since_more all lines (told.State state) ∙ ap (λ (l : Option Lane). cond (is_lane all l) 0 (since all lines)) at);
-    form = sym (form_more saved lines (told.State state) ∙ ap (λ (l : Option Lane). form_in (last_form saved lines) l) at);
-    number = one_more lines (told.State state) noted.lines is.number;
-  }
+  accounts = all_as (Of lines) (Of (lines ++ told.State state ∷ [])) noted.ids noted.accounts.streams (λ id account. state_of_other lines state id account (ap (λ (l : Option Lane). is_lane (one id) l) at)) is.accounts;
+  global = sym (since_more all lines (told.State state) ∙ ap (λ (l : Option Lane). cond (is_lane all l) 0 (since all lines)) at);
+  form = sym (form_more saved lines (told.State state) ∙ ap (λ (l : Option Lane). form_in (last_form saved lines) l) at);
+  number = one_more lines (told.State state) noted.lines is.number;
+}
 
 hears_status : (saved : Option StateForm) (lines : List Told) (id : StreamId) (status : StreamStatus) (noted : Noted) (account : Option Account) → account_of noted.ids id noted.accounts.streams ≡ account → AreDistinct noted.ids → IsNotedOf saved lines noted → IsNotedOf saved (lines ++ told.Status id status ∷ []) (heard_status id status noted account)
 hears_status saved lines id status noted None at distinct is = record {
-    accounts = all_without (Of lines) (Of (lines ++ told.Status id status ∷ [])) id noted.ids noted.accounts.streams at (status_of_other lines status id) is.accounts;
-    global = is.global ∙ sym (since_more all lines (told.Status id status));
-    form = is.form ∙ sym (form_more saved lines (told.Status id status));
-    number = one_more lines (told.Status id status) noted.lines is.number;
-  }
+  accounts = all_without (Of lines) (Of (lines ++ told.Status id status ∷ [])) id noted.ids noted.accounts.streams at (status_of_other lines status id) is.accounts;
+  global = is.global ∙ sym (since_more all lines (told.Status id status));
+  form = is.form ∙ sym (form_more saved lines (told.Status id status));
+  number = one_more lines (told.Status id status) noted.lines is.number;
+}
 hears_status saved lines id status noted (Some account) at distinct is = record {
-    accounts = all_with (Of lines) (Of (lines ++ told.Status id status ∷ [])) id (with_status status) noted.ids noted.accounts.streams distinct (status_of_it lines status id) (status_of_other lines status id) is.accounts;
-    global = is.global ∙ sym (since_more all lines (told.Status id status));
-    form = is.form ∙ sym (form_more saved lines (told.Status id status));
-    number = one_more lines (told.Status id status) noted.lines is.number;
-  }
+  accounts = all_with (Of lines) (Of (lines ++ told.Status id status ∷ [])) id (with_status status) noted.ids noted.accounts.streams distinct (status_of_it lines status id) (status_of_other lines status id) is.accounts;
+  global = is.global ∙ sym (since_more all lines (told.Status id status));
+  form = is.form ∙ sym (form_more saved lines (told.Status id status));
+  number = one_more lines (told.Status id status) noted.lines is.number;
+}
 
 hears : (saved : Option StateForm) (lines : List Told) (line : Told) (noted : Noted) → AreDistinct noted.ids → IsNotedOf saved lines noted → IsNotedOf saved (lines ++ line ∷ []) (heard noted line)
 hears saved lines (told.Record id) noted distinct is = hears_record saved lines id noted distinct is
@@ -206,17 +206,17 @@ hears saved lines (told.Other saying) noted distinct is = nothing_heard saved li
 -- the states of a lane change, and nothing else
 lane_kept : (saved : Option StateForm) (lines : List Told) (noted : Noted) (lane : Lane) (change : LaneAccount → LaneAccount) (held : List Pending) → ((account : LaneAccount) → (change account).since ≡ account.since) → IsNotedOf saved lines noted → IsNotedOf saved lines (record noted { accounts = with_lane noted.ids noted.accounts lane change; held = held })
 lane_kept saved lines noted (one other) change held same is = record {
-    accounts = all_kept (Of lines) other (changed_lane change) noted.ids noted.accounts.streams (λ id account of_it. record { records = of_it.records; status = of_it.status; since = same account.lane ∙ of_it.since }) is.accounts;
-    global = is.global;
-    form = is.form;
-    number = is.number;
-  }
+  accounts = all_kept (Of lines) other (changed_lane change) noted.ids noted.accounts.streams (λ id account of_it. record { records = of_it.records; status = of_it.status; since = same account.lane ∙ of_it.since }) is.accounts;
+  global = is.global;
+  form = is.form;
+  number = is.number;
+}
 lane_kept saved lines noted all change held same is = record {
-    accounts = is.accounts;
-    global = same noted.accounts.global ∙ is.global;
-    form = is.form;
-    number = is.number;
-  }
+  accounts = is.accounts;
+  global = same noted.accounts.global ∙ is.global;
+  form = is.form;
+  number = is.number;
+}
 
 gives_in : (saved : Option StateForm) (lines : List Told) (noted : Noted) (held : List Pending) (lane : Option Lane) → IsNotedOf saved lines noted → IsNotedOf saved lines (record noted { accounts = given_in noted.ids held lane noted.accounts; held = [] })
 gives_in saved lines noted held None is = record { accounts = is.accounts; global = is.global; form = is.form; number = is.number }
@@ -231,8 +231,8 @@ gives saved lines noted is = at noted.held
 
 pub list_laws : ListLaws
 list_laws = record {
-    begins = begins;
-    hears = hears;
-    gives = gives;
-    takes = λ saved lines noted lane left is. lane_kept saved lines noted lane (left_pending left) noted.held (λ account. refl) is;
-  }
+  begins = begins;
+  hears = hears;
+  gives = gives;
+  takes = λ saved lines noted lane left is. lane_kept saved lines noted lane (left_pending left) noted.held (λ account. refl) is;
+}

@@ -86,13 +86,13 @@ new_streams ids = new_length ids
 
 new_kept : (streams : List ConfStream) (form : Option StateForm) → AreConfigured streams → IsKept (nothing_noted (ids_of streams) form)
 new_kept streams form are = record {
-    distinct = are.distinct;
-    few = let long = ids_length streams in omega (arith, are.few, long);
-    streams = new_streams (ids_of streams);
-    lines = omega arith;
-    held = omega arith;
-    within = new_are_within (ids_of streams);
-  }
+  distinct = are.distinct;
+  few = let long = ids_length streams in omega (arith, are.few, long);
+  streams = new_streams (ids_of streams);
+  lines = omega arith;
+  held = omega arith;
+  within = new_are_within (ids_of streams);
+}
 
 pub opened_kept : (streams : List ConfStream) (index : List StreamId) (accounts : AllAccounts) (form : Option StateForm) → AreConfigured streams → index ≡ ids_of streams → accounts ≡ new_accounts (ids_of streams) → IsKept (record { ids = index; accounts = accounts; form = form; lines = 0; held = [] })
 opened_kept streams index accounts form are same_ids same_accounts =
