@@ -5,3 +5,4 @@ pub mod OpenLemmas
 pub mod ListLemmas
 pub mod JudgeLemmas
 pub mod LeaveLemmas
+pub mod PendingLemmas

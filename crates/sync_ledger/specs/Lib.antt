@@ -6,3 +6,4 @@ pub mod Takes
 pub mod Judged
 pub mod Kept
 pub mod Lists
+pub mod PendingLists
