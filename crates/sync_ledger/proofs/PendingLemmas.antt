@@ -1,5 +1,5 @@
 -- What is pending in each lane.
-use Rattle.std.proofs.Common.{◌≡◌, ◌⊎◌, inl, inr, List, [], ◌∷◌, ◌++◌, append-nil, filter, Option, None, Some, option_map, Bool, true, false, cond, is_some, refl, sym, ◌∙◌, ap, subst}
+use Rattle.std.proofs.Common.{◌≡◌, inl, inr, List, [], ◌∷◌, ◌++◌, append-nil, Option, None, Some, option_map, Bool, true, false, cond, is_some, refl, sym, ◌∙◌, ap, subst}
 use Rattle.basics.specs.declared.stream.StreamId.{StreamId}
 use Rattle.stream_index.specs.Same.{is_same_stream}
 use Rattle.stream_index.proofs.IndexLemmas.{Decides-stream}
@@ -40,11 +40,11 @@ own_account (own ∷ ids) id other change (account ∷ accounts) alike = by_test
     ∙ (ap (λ (b : Bool). cond b (Some (change account)) (account_of ids other accounts)) (as_first own id other true same alike)
     ∙ sym (ap (λ (b : Bool). option_map change (cond b (Some account) (account_of ids other accounts))) (as_first own id other true same alike))))
     (λ apart.
-      let away : is_same_stream own other ≡ false = ap (λ (x : StreamId). is_same_stream own x) (sym ((Decides-stream id other).0 alike)) ∙ apart in
-      ap (λ (b : Bool). account_of (own ∷ ids) other (cond b (change account ∷ accounts) (account ∷ with_account ids id change accounts))) apart
-      ∙ (ap (λ (b : Bool). cond b (Some account) (account_of ids other (with_account ids id change accounts))) away
-      ∙ (own_account ids id other change accounts alike
-      ∙ sym (ap (λ (b : Bool). option_map change (cond b (Some account) (account_of ids other accounts))) away))))
+    let away : is_same_stream own other ≡ false = ap (λ (x : StreamId). is_same_stream own x) (sym ((Decides-stream id other).0 alike)) ∙ apart in
+    ap (λ (b : Bool). account_of (own ∷ ids) other (cond b (change account ∷ accounts) (account ∷ with_account ids id change accounts))) apart
+    ∙ (ap (λ (b : Bool). cond b (Some account) (account_of ids other (with_account ids id change accounts))) away
+    ∙ (own_account ids id other change accounts alike
+    ∙ sym (ap (λ (b : Bool). option_map change (cond b (Some account) (account_of ids other accounts))) away))))
 
 abbrev lane_found : Option Account → Option LaneAccount
 lane_found found = option_map (λ account. account.lane) found

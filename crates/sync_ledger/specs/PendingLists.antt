@@ -1,6 +1,6 @@
 -- The states of a lane that are pending: a line of the source leaves them, the state that was held is put behind those of its
 -- lane, and what a state of the destination leaves of one lane is of that lane alone.
-use Rattle.std.specs.Prelude.{◌≡◌, ◌⊎◌, List, [], ◌∷◌, ◌++◌, filter, Option, None, Some, Bool, true, if◌then◌else◌, is_some}
+use Rattle.std.specs.Prelude.{◌≡◌, ◌⊎◌, List, [], ◌∷◌, ◌++◌, filter, Some, true, if◌then◌else◌, is_some}
 use Rattle.airbyte_message.specs.Lanes.{Lane, lane_of}
 use Rattle.sync_ledger.specs.Accounts.{lane_in, left_pending, with_lane}
 use Rattle.sync_ledger.specs.Lists.{is_lane}
