@@ -16,7 +16,7 @@ returns-in-Ok-Some-clause-next g c =
     let answer = c.in-Ok-Some.is ∙ ap (λ (f : Option (List ℕ)). Ok f) c.in-Ok-Some.field-0-is in
     let same = ap (λ (p : Progress g.row.S-Start.Denot g.row.S-Rows.Denot). record { source = inside.source; moment = inside.moment; reached = reached_by p }) (sym c.in-Going.is) ∙ c.self.view_is in
     subst (λ (v : SourceFeedSeen g.row.S.Denot g.row.S-Start.Denot). ended_as v.reached ≡ None
-        → GivesLine c.in-Ok-Some.line (MayGiveFrom (S.Opens v.source) v.moment v.reached) (MayGiveFrom (S.Opens now.source) inside.moment (Goes now.round)) (feed_seen (S.seen v.source) v.reached) (feed_seen (S.seen now.source) (Goes now.round))) same
+    → GivesLine c.in-Ok-Some.line (MayGiveFrom (S.Opens v.source) v.moment v.reached) (MayGiveFrom (S.Opens now.source) inside.moment (Goes now.round)) (feed_seen (S.seen v.source) v.reached) (feed_seen (S.seen now.source) (Goes now.round))) same
     (λ _. given_next (S.seen inside.source) (S.seen now.source) (S.Opens inside.source) (S.Opens now.source) inside.moment c.in-Going.round now.round c.advance-answer.result c.in-Ok-Some.line answer c.advance-answer.ensures.goes c.advance-answer.ensures.stays)
 
 pub returns-in-Ok-Some-clause-open : goal.returns-in-Ok-Some-clause-open
@@ -45,7 +45,7 @@ returns-then-is_memory-clause-next g c =
     let now = c.advance-answer.new in
     let same = ap (λ (p : Progress g.row.S-Start.Denot g.row.S-Rows.Denot). record { source = inside.source; moment = inside.moment; reached = reached_by p }) (sym c.in-Going.is) ∙ c.self.view_is in
     subst (λ (v : SourceFeedSeen g.row.S.Denot g.row.S-Start.Denot). ended_as v.reached ≡ None
-        → GivesNext (Err c.in-Err.why) (MayGiveFrom (S.Opens v.source) v.moment v.reached) (MayGiveFrom (S.Opens now.source) inside.moment (Goes now.round)) (feed_seen (S.seen v.source) v.reached) (feed_seen (S.seen now.source) (Goes now.round))) same
+    → GivesNext (Err c.in-Err.why) (MayGiveFrom (S.Opens v.source) v.moment v.reached) (MayGiveFrom (S.Opens now.source) inside.moment (Goes now.round)) (feed_seen (S.seen v.source) v.reached) (feed_seen (S.seen now.source) (Goes now.round))) same
     (λ _. wants_next (S.seen inside.source) (S.seen now.source) (S.Opens inside.source) (S.Opens now.source) inside.moment c.in-Going.round now.round c.advance-answer.result c.in-Err.why c.in-Err.is (sym c.is_memory.ensures ∙ c.if-is_memory.true) c.advance-answer.ensures.goes c.advance-answer.ensures.stays)
 
 pub returns-then-is_memory-clause-open : goal.returns-then-is_memory-clause-open
@@ -69,10 +69,10 @@ returns-else-is_memory g c =
       again = if_none (ended_as c.args.self.now.reached) _ (ap (λ (v : SourceFeedSeen g.row.S.Denot g.row.S-Start.Denot). ended_as v.reached) (sym same));
       next = subst (λ (v : SourceFeedSeen g.row.S.Denot g.row.S-Start.Denot). ended_as v.reached ≡ None
           → GivesNext (Err c.in-Err.why) (MayGiveFrom (S.Opens v.source) v.moment v.reached) (MayGiveFrom (S.Opens now.source) inside.moment (Ended c.in-Err.why)) (feed_seen (S.seen v.source) v.reached) (feed_seen {Start = g.row.S-Start.Denot} (S.seen now.source) (Ended c.in-Err.why))) same
-      (λ _. ends_next (S.seen inside.source) (S.seen now.source) (S.Opens inside.source) (S.Opens now.source) inside.moment c.in-Going.round now.round c.advance-answer.result c.in-Err.why c.in-Err.is (sym c.is_memory.ensures ∙ c.if-is_memory.false) c.advance-answer.ensures.goes c.advance-answer.ensures.faults c.advance-answer.ensures.stays);
+          (λ _. ends_next (S.seen inside.source) (S.seen now.source) (S.Opens inside.source) (S.Opens now.source) inside.moment c.in-Going.round now.round c.advance-answer.result c.in-Err.why c.in-Err.is (sym c.is_memory.ensures ∙ c.if-is_memory.false) c.advance-answer.ensures.goes c.advance-answer.ensures.faults c.advance-answer.ensures.stays);
       «open» = λ none. absurd (some_none c.in-Err.why none);
       starts = subst (λ (v : SourceFeedSeen g.row.S.Denot g.row.S-Start.Denot). StartsAlike (MayBeginFrom S.Starts (S.seen v.source) (S.Opens v.source) v.moment) (MayBeginFrom S.Starts (S.seen now.source) (S.Opens now.source) inside.moment)) c.self.view_is
-      (starts_alike S.Starts (S.seen inside.source) (S.seen now.source) (S.Opens inside.source) (S.Opens now.source) inside.moment c.advance-answer.ensures.others c.advance-answer.ensures.alike);
+          (starts_alike S.Starts (S.seen inside.source) (S.seen now.source) (S.Opens inside.source) (S.Opens now.source) inside.moment c.advance-answer.ensures.others c.advance-answer.ensures.alike);
       alike = subst (λ (v : SourceFeedSeen g.row.S.Denot g.row.S-Start.Denot). OpensAlike (S.Opens v.source) (S.Opens now.source)) c.self.view_is c.advance-answer.ensures.alike;
       source = subst (λ (v : SourceFeedSeen g.row.S.Denot g.row.S-Start.Denot). S.seen now.source ≡ record (S.seen v.source) { faults = (S.seen now.source).faults }) c.self.view_is c.advance-answer.ensures.others;
       moment = ap (λ (v : SourceFeedSeen g.row.S.Denot g.row.S-Start.Denot). v.moment) c.self.view_is;
