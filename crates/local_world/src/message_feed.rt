@@ -64,7 +64,14 @@ impl Feed for MessageFeed {
     ghost use Rattle.std.specs.Prelude.{◌≡◌, None, Err, IfErr, IfSome, OnOk};
     ghost use Rattle.basics.specs.Told.{RoseIf};
     ghost use Rattle.outside.specs.Feed.{
-        AnswersAgain, Begins as BeginsTo, GivesNext, RefusesTexts, StartsAlike, anything, ended_with, nothing_left,
+      AnswersAgain,
+      Begins as BeginsTo,
+      GivesNext,
+      RefusesTexts,
+      StartsAlike,
+      anything,
+      ended_with,
+      nothing_left,
     };
     ghost use Rattle.local_world.specs.Begun.{Begins, Gives, MayBegin, MayGive, Refuses};
 

@@ -3,7 +3,15 @@ ghost use Rattle.std.specs.Prelude.{◌≡◌, ℕ, List, None, Result, IfErr, I
 ghost use Rattle.basics.specs.Told.{RoseIf};
 ghost use Rattle.outside.specs.Status.{number_of};
 ghost use Rattle.outside.specs.Feed.{
-    FeedSeen, Left, AnswersAgain, Begins, GivesNext, RefusesTexts, StartsAlike, anything, ended_with,
+  FeedSeen,
+  Left,
+  AnswersAgain,
+  Begins,
+  GivesNext,
+  RefusesTexts,
+  StartsAlike,
+  anything,
+  ended_with,
 };
 
 use crate::{Exit, Status};
