@@ -13,7 +13,7 @@ const MADE: &str =
 INSERT INTO source_rows (tab, id, body) VALUES ('b', 1, '{\"b\":1}'), ('a', 9, '{\"a\":9}'), ('a', 1, '{\"a\":1}'), ('a', 4, '{\"a\":\"ë\"}'), ('c', -3, '{}'), ('d', 2, NULL);";
 
 fn make_with<O: Opener>(opener: &mut O, name: &str, sql: &str) -> Result<(), Fault> {
-    opener.open(name)?.run_text(sql)
+    opener.open(name)?.execute_batch(sql)
 }
 
 // The ids and bodies of a page, or why there is none.
