@@ -1,5 +1,6 @@
 -- The lines of a source of bytes: what is still to come, and what an answer gives of it.
-use Rattle.std.specs.Prelude.{◌≡◌, ℕ, List, [], ◌∷◌, ◌++◌, Bool, true, false, Option, None, Some, option_map, IfSome}
+use Rattle.std.specs.Prelude.{◌≡◌, ℕ, List, [], ◌∷◌, ◌++◌, length, ◌≤◌, Bool, true, false, Option, None, Some, option_map, IfSome}
+use Rattle.basics.specs.declared.limits.TheConstants.{LONGEST_LINE}
 use Rattle.outside.specs.declared.link.Polled.{Polled}
 use Rattle.outside.specs.declared.link.Polled.TheVariants as polled
 use Rattle.piecewise_lines.specs.Unread.{Unread}
@@ -117,3 +118,9 @@ GoesOnOrCause (polled.Torn line) old new = HasCause (polled.Torn line) old new
 GoesOnOrCause polled.End old new = HasCause polled.End old new
 GoesOnOrCause polled.Failed old new = HasCause polled.Failed old new
 GoesOnOrCause polled.NoMemory old new = HasCause polled.NoMemory old new
+
+-- For private clauses: a line is within the limit.
+abbrev pub IsShort : NextLine → Type 0
+IsShort (answer.Line line) = length line ≤ LONGEST_LINE
+IsShort answer.TooLong = Unit {0}
+IsShort answer.More = Unit {0}

@@ -44,7 +44,7 @@ impl<I: Source + Drop> InputLines<I> {
     ghost use Rattle.outside.specs.Dock.{IsWithinLimit};
     ghost use Rattle.outside.specs.FaultCounts.{StaysUnlessFailed};
     ghost use Rattle.piecewise_lines.specs.Next.{fed, given_by, IsTorn};
-    ghost use Rattle.line_streams.specs.Input.{to_come, LeavesLines, GivesInOrder, HasNoLine, IsSame, Answered, Answers, AreRead, HasCause, GoesOnOrCause};
+    ghost use Rattle.line_streams.specs.Input.{to_come, LeavesLines, GivesInOrder, HasNoLine, IsSame, IsShort, Answered, Answers, AreRead, HasCause, GoesOnOrCause};
 
     /// Nothing was read yet.
     pub fn new(alloc: Global, source: I) -> Result<Self, NoMemory>
@@ -71,10 +71,12 @@ impl<I: Source + Drop> InputLines<I> {
     }
 
     // What comes next of all that was read.
+    #[tactic(auto, using(crate::proofs::InputLemmas::short_next))]
     fn next_line(&mut self) -> Result<NextLine, NoMemory>
         ensures answer { IfOk result (λ given. Answered given (fed self.old.unread self.old.held) self.new) }
         ensures order { IfOk result (λ given. LeavesLines (given_by given) (to_come self.old) (to_come self.new)) }
         ensures torn { IfOk result (λ given. given ≡ NextLine.More → IsTorn self.new.unread) }
+        ensures within { IfOk result IsShort }
         ensures err { OnErr result (IsSame (fed self.new.unread self.new.held) (fed self.old.unread self.old.held)) }
         ensures kept { OnErr result (to_come self.new ≡ to_come self.old) }
         ensures others { self.new ≡ record (self.old) { unread = self.new.unread; held = self.new.held } }
@@ -120,7 +122,7 @@ impl<I: Source + Drop> InputLines<I> {
     }
 
     // What is to be answered by all that was read; `NotYet` where more has to be read first.
-    #[tactic(auto, using(crate::proofs::CauseLemmas::left_answers, crate::proofs::InputLemmas::line_within))]
+    #[tactic(auto, using(crate::proofs::CauseLemmas::left_answers))]
     fn ready(&mut self) -> Polled
         ensures order { GivesInOrder result (to_come self.old) (to_come self.new) }
         ensures within { IsWithinLimit result }
