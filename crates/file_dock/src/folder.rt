@@ -75,8 +75,7 @@ fn sync_folder(runtime: &HostRuntime, folder: &str) -> Result<(), Fault> {
 // The folder that a path lies in.
 fn parent_of(path: &str) -> &str {
     match path.rsplit_once('/') {
-        Some(("", _)) => "/",
-        Some((parent, _)) => parent,
+        Some((parent, _)) => { if parent.is_empty() { "/" } else { parent } }
         None => ".",
     }
 }

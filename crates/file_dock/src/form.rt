@@ -81,13 +81,13 @@ pub fn well_formed(alloc: Global, text: &[u8]) -> Result<Stored, Fault>
 {
     let store = store_of(alloc, text)?;
     let written = text_of(alloc, &store.moments, &store.tables)?;
-    if written.as_slice() == text
-        && do_rise(&store.tables)
+    let own_numbers = have_own_numbers(alloc, &store.tables)?;
+    let is_form = written.as_slice() == text
         && store.tables.places < 1 << 63
         && all_of_loads(&store.tables)
         && have_own_ids(store.tables.streams.as_slice())
-        && have_own_numbers(alloc, &store.tables)?
-    {
+        && own_numbers;
+    if is_form && do_rise(&store.tables) {
         Ok(store)
     } else {
         Err(Fault::Failed)

@@ -1,4 +1,5 @@
 -- Fronts of a text that were taken.
+use Rattle.std.specs.Prelude.{IsErrOf, Err}
 use Rattle.std.proofs.Common.{◌≡◌, ◌⊎◌, inl, inr, ◌<◌, zero, suc, ℕ, ◌+◌, ◌≤◌, List, [], ◌++◌, length, take, drop, Option, None, Some, refl, sym, ap, subst, ◌∙◌, arith, append_assoc, append-nil}
 use Rattle.std.proofs.Math.Seq.{take-add}
 use Rattle.std.proofs.lemmas.List.{take-append-drop, take_all, take-take, length-take, length-drop}
@@ -39,7 +40,7 @@ pub taken_within : (at count most : ℕ) (text : List ℕ) → at ≤ length tex
 taken_within at count most text front within = omega (arith, front, within, length-take most (drop at text), length-drop at text)
 
 -- a write that failed behind a front of a text cuts it short
-pub cut_here : (text : List ℕ) (at part : ℕ) (given : Fault) (bytes mid now : Option (List ℕ)) (faults faults_mid faults_now : ℕ) → part ≡ at → at < length text → mid ≡ told_more (take at text) bytes → now ≡ mid → faults_mid ≡ faults → (given ≡ fault.Failed → Rose faults_mid faults_now) → (given ≡ fault.Failed) ⊎ (0 < at) → IsCutShort text part bytes now faults faults_now
+pub cut_here : (text : List ℕ) (at part : ℕ) (given : Fault) (bytes mid now : Option (List ℕ)) (faults faults_mid faults_now : ℕ) → part ≡ at → at < length text → mid ≡ told_more (take at text) bytes → now ≡ mid → faults_mid ≡ faults → (IsErrOf {T = ℕ} (Err given) fault.Failed → Rose faults_mid faults_now) → (given ≡ fault.Failed) ⊎ (0 < at) → IsCutShort text part bytes now faults faults_now
 cut_here text at part given bytes mid now faults faults_mid faults_now here within front kept same rose why = record {
   part_is = subst (λ (n : ℕ). n < length text) (sym here) within;
   stands = kept ∙ (front ∙ ap (λ (n : ℕ). told_more (take n text) bytes) (sym here));
@@ -47,7 +48,7 @@ cut_here text at part given bytes mid now faults faults_mid faults_now here with
 }
   where
     cause : (given ≡ fault.Failed) ⊎ (0 < at) → Rose faults faults_now ⊎ (0 < part)
-    cause (inl failed) = inl (subst (λ (n : ℕ). Rose n faults_now) same (rose failed))
+    cause (inl failed) = inl (subst (λ (n : ℕ). Rose n faults_now) same (rose (ap (λ (why : Fault). Err why) failed)))
     cause (inr some) = inr (subst (λ (n : ℕ). 0 < n) (sym here) some)
 
 -- where nothing was written before, nothing stands

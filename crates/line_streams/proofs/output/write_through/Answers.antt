@@ -11,4 +11,4 @@ loop-at-preserved g c = record {
 
 pub returns-in-Err-clause-failed : goal.returns-in-Err-clause-failed
 returns-in-Err-clause-failed g c e =
-    cut_here c.args.text.now c.loop-at.at _ c.in-Err.fault _ _ _ _ _ _ c.cut_at.ensures.part c.loop-at-test.true c.loop-at.invariant.taken c.in-Err.ensures.kept c.loop-at.invariant.faults (λ failed. c.in-Err.ensures.rose failed) (c.cut_at.ensures.failed e)
+    cut_here c.args.text.now c.loop-at.at _ c.in-Err.fault _ _ _ _ _ _ c.cut_at.ensures.part c.loop-at-test.true c.loop-at.invariant.taken c.in-Err.ensures.kept c.loop-at.invariant.faults c.in-Err.ensures.rose (c.cut_at.ensures.failed e)
