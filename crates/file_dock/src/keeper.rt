@@ -1,7 +1,8 @@
 // A destination's tables in one file.
 use crate::folder::Folder;
+use crate::form::well_formed;
 use crate::places::do_rise;
-use crate::read::{Stored, store_of};
+use crate::read::Stored;
 use crate::write::text_of;
 use kept_dock::{Keeper, KeptDock, KeptLoad};
 use outside::{
@@ -14,7 +15,8 @@ use std::alloc::Global;
 pub type FileDock<F, I, W> = KeptDock<FileKeeper<F>, I, W>;
 
 /// Keeps a destination's tables in one text, which it holds in memory and writes as a whole at each change: meant for small
-/// tables. A store that could not be written is closed, since the folder has the one before.
+/// tables. A store that could not be written is closed, since the folder may have the one before. A text that is not that of
+/// a store, to the last byte, is `Failed` at the opening, and stays as it was.
 #[derive(Drop)]
 pub struct FileKeeper<F: Folder + Drop> {
     alloc: Global,
@@ -122,8 +124,8 @@ impl<F: Folder + Drop> Keeper for FileKeeper<F> {
         self.store = None;
         self.folder.go_to(name)?;
         self.store = match self.folder.read()? {
-            Some(text) => Some(store_of(self.alloc, text.as_slice())?),
-            None => Some(store_of(self.alloc, b"")?),
+            Some(text) => Some(well_formed(self.alloc, text.as_slice())?),
+            None => Some(well_formed(self.alloc, b"")?),
         };
         Ok(())
     }

@@ -4,10 +4,11 @@
 
 mod fields;
 mod folder;
+mod form;
 mod keeper;
 mod places;
 mod read;
 mod write;
 
-pub use folder::{Folder, StdFolder};
+pub use folder::{Folder, LONGEST_STORE, StdFolder};
 pub use keeper::{FileDock, FileKeeper};

@@ -122,7 +122,12 @@ impl Reading {
     fn take_winner(&mut self, record: &ByteRecord) -> Result<(), Fault> {
         let alloc = self.alloc;
         let mut winner = RawRowList::new(alloc);
-        winner.push(row_at(alloc, record, 3)?)?;
+        let row = row_at(alloc, record, 3)?;
+        // a row without a key wins nothing, and one of a load to come cannot stand
+        if row.key.is_empty() || row.load == 0 || row.load > self.moments.len() as u64 {
+            return Err(Fault::Failed);
+        }
+        winner.push(row)?;
         let side = number_at(record, 2)?;
         let table = self.stream_at(record, 1)?;
         match side {

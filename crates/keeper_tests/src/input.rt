@@ -2,15 +2,17 @@
 ghost use Rattle.std.specs.Prelude.{◌≡◌, ◌≤◌, IfOk, IfSome, length, None};
 
 use line_streams::{InputLines, OutputLines};
-use outside::{Bytes, FailList, Fault, NoMemory, Polled, Sink, Source};
+use outside::{Bytes, Copies, FailList, Fault, NoMemory, Polled, Sink, Source};
 use outside_mem::{MemSink, MemSource};
 use std::alloc::Global;
 use std::test::Fail;
 
-// Gives at most three bytes of another source a call, and wants memory at every fourth.
+// Gives few bytes of another source a call, and wants memory at every fourth where it is short of it.
 #[derive(Drop)]
 struct Drops {
     source: MemSource,
+    most: usize,
+    is_short: bool,
     calls: u64,
 }
 
@@ -21,10 +23,10 @@ impl Source for Drops {
 
     fn read(&mut self, room: &mut [u8]) -> Result<u32, Fault> {
         self.calls = self.calls.saturating_add(1);
-        if self.calls & 3 == 0 {
+        if self.is_short && self.calls & 3 == 0 {
             return Err(Fault::NoMemory);
         }
-        let most = room.len().min(3);
+        let most = room.len().min(self.most.max(1));
         self.source.read(&mut room[..most])
     }
 }
@@ -76,13 +78,38 @@ fn lines_come_in_order_however_the_source_is_cut(rt: HostRuntime) -> Result<(), 
     );
     let drops = Drops {
         source: source_of(alloc, b"one\n\ntwo\n three", 3)?,
+        most: 3,
+        is_short: true,
         calls: 0,
     };
-    let cut = poll_times(alloc, drops, 14)?;
+    let cut = poll_times(alloc, drops, 9)?;
     assert_eq!(rt;
         cut.as_slice(),
-        b". one Failed ? two . . ?  three torn End End End End End ".as_slice()
+        b"one Failed ? two ?  three torn End End End ".as_slice()
     );
+    Ok(())
+}
+
+// More bytes than polls in a row may bring nothing.
+const LONG: usize = 12_000;
+
+#[test]
+fn a_line_that_comes_byte_by_byte_is_never_silence(rt: HostRuntime) -> Result<(), Fail> {
+    let alloc = rt.alloc();
+    let mut text = Bytes::new(alloc);
+    for _ in 0..LONG {
+        text.push(b'x')?;
+    }
+    let mut wanted = text.copy(alloc)?;
+    text.extend(b"\ny")?;
+    wanted.extend(b" y torn End ")?;
+    let drops = Drops {
+        source: source_of(alloc, text.as_slice(), 1_000_000)?,
+        most: 1,
+        is_short: false,
+        calls: 0,
+    };
+    assert!(rt; poll_times(alloc, drops, 3)? == wanted);
     Ok(())
 }
 

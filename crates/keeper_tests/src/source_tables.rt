@@ -10,10 +10,11 @@ use std::test::Fail;
 
 const MADE: &str =
     "CREATE TABLE source_rows (tab TEXT, id INTEGER, body TEXT, PRIMARY KEY (tab, id));
-INSERT INTO source_rows (tab, id, body) VALUES ('b', 1, '{\"b\":1}'), ('a', 9, '{\"a\":9}'), ('a', 1, '{\"a\":1}'), ('a', 4, '{\"a\":\"ë\"}'), ('c', -3, '{}'), ('d', 2, NULL);";
+INSERT INTO source_rows (tab, id, body) VALUES ('b', 1, '{\"b\":1}'), ('a', 9, '{\"a\":9}'), ('a', 1, '{\"a\":1}'), ('a', 4, '{\"a\":\"ë\"}'), ('c', -3, '{}'), ('c', 3, '{}'), ('d', 2, NULL), ('e', NULL, '{}'), ('e', 5, '{}'), ('f', 0, '{}'), ('f', 3, '{}');";
 
-fn make_with<O: Opener>(opener: &mut O, name: &str, sql: &str) -> Result<(), Fault> {
-    opener.open(name)?.run_text(sql)
+/// Runs statements on a database, which is made where it is missing.
+pub fn make_with<O: Opener>(opener: &mut O, name: &str, sql: &str) -> Result<(), Fault> {
+    opener.open(name)?.execute_batch(sql)
 }
 
 // The ids and bodies of a page, or why there is none.
@@ -43,16 +44,23 @@ fn tell_page<R: RowStore>(
     Ok(told)
 }
 
-const PAGES: [(&str, u64, u32, &str); 8] = [
+const PAGES: [(&str, u64, u32, &str); 12] = [
     ("a", 0, 10, "1 {\"a\":1};4 {\"a\":\"ë\"};9 {\"a\":9};"),
     ("a", 0, 2, "1 {\"a\":1};4 {\"a\":\"ë\"};"),
     ("a", 4, 2, "9 {\"a\":9};"),
     ("a", 9, 2, ""),
     ("b", 0, 2, "1 {\"b\":1};"),
-    ("c", 0, 2, ""),
+    ("c", 0, 2, "failed"),
+    ("c", 1, 2, "failed"),
     ("d", 0, 2, "failed"),
+    ("e", 0, 2, "failed"),
+    ("e", 4, 2, "failed"),
+    ("f", 1, 2, "failed"),
     ("stranger", 0, 2, ""),
 ];
+
+// How many of them fail.
+const FAILING: usize = 6;
 
 // How many of the pages are those of the table.
 fn right_pages<R: RowStore>(alloc: Global, store: &mut R) -> Result<usize, Fault> {
@@ -86,14 +94,14 @@ fn rows_come_in_pages_of_their_table(rt: HostRuntime) -> Result<(), Fail> {
 #[test]
 fn a_database_that_is_missing_or_has_no_rows_is_no_source(rt: HostRuntime) -> Result<(), Fail> {
     remove(&rt, "keeper_none.db")?;
-    assert_eq!(rt; read_rows(&rt, "keeper_none.db")?, (true, 1));
+    assert_eq!(rt; read_rows(&rt, "keeper_none.db")?, (true, FAILING));
     assert!(rt; File::open(&rt, "keeper_none.db").is_err());
     make_with(
         &mut FileOpener::new(&rt),
         "keeper_none.db",
         "CREATE TABLE other (x INTEGER);",
     )?;
-    assert_eq!(rt; read_rows(&rt, "keeper_none.db")?, (true, 1));
+    assert_eq!(rt; read_rows(&rt, "keeper_none.db")?, (true, FAILING));
     remove(&rt, "keeper_none.db")?;
     Ok(())
 }

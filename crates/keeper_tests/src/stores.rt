@@ -1,7 +1,8 @@
 // Stores in files: closed and opened again, taken by another, and no store at all.
 use crate::files::{remove, write_text};
 use crate::play::{calls_before_opening, play};
-use file_dock::{FileDock, FileKeeper, StdFolder};
+use crate::source_tables::make_with;
+use file_dock::{FileDock, FileKeeper, Folder, StdFolder};
 use outside::{Bytes, Dock, FailList, Fault};
 use outside_mem::{MemDock, MemSink, MemSource};
 use sqlite_dock::{SqliteDock, SqliteKeeper};
@@ -148,5 +149,78 @@ fn no_store_fails_and_stays_as_it_was(rt: HostRuntime) -> Result<(), Fail> {
     assert_eq!(rt; faults_of_no_store(&rt, "keeper_text.db")?, 4);
     assert_eq!(rt; fs::read_to_string(&rt, "keeper_text.db")?.as_str(), text);
     remove(&rt, "keeper_text.db")?;
+    Ok(())
+}
+
+// What breaks a store: another column, a table too few, a row without a place, and one of a load to come.
+const BROKEN: [&str; 4] = [
+    "UPDATE raw_rows SET pos = 0 WHERE pos = 1",
+    "UPDATE raw_rows SET load = 1000 WHERE pos = 1",
+    "DROP TABLE final_rows",
+    "DROP TABLE loads; CREATE TABLE loads (load INTEGER PRIMARY KEY, moment INTEGER NOT NULL, more INTEGER)",
+];
+
+// How many of them make the store one that does not open.
+fn broken_stores(rt: &HostRuntime, name: &str) -> Result<usize, Fault> {
+    let mut count = 0usize;
+    for sql in &BROKEN {
+        remove(rt, name)?;
+        play_in_file(rt, name, 1)?;
+        make_with(&mut FileOpener::new(rt), name, sql)?;
+        if database_dock(rt)?.open_store(name) == Err(Fault::Failed) {
+            count = count.saturating_add(1);
+        }
+    }
+    Ok(count)
+}
+
+#[test]
+fn a_malformed_store_fails(rt: HostRuntime) -> Result<(), Fail> {
+    assert_eq!(rt; broken_stores(&rt, "keeper_broken.db")?, BROKEN.len());
+    remove(&rt, "keeper_broken.db")?;
+    Ok(())
+}
+
+#[test]
+fn the_empty_name_is_no_store(rt: HostRuntime) -> Result<(), Fail> {
+    assert_eq!(rt; database_dock(&rt)?.open_store(""), Err(Fault::Failed));
+    let mut dock = folder_dock(&rt)?;
+    assert_eq!(rt; dock.open_store(""), Err(Fault::Failed));
+    assert_eq!(rt; dock.counts().store_faults, 1);
+    Ok(())
+}
+
+// A folder that takes no text.
+#[derive(Drop)]
+struct FullFolder;
+
+impl Folder for FullFolder {
+    fn go_to(&mut self, _name: &str) -> Result<(), Fault> {
+        Ok(())
+    }
+
+    fn read(&mut self) -> Result<Option<Bytes>, Fault> {
+        Ok(None)
+    }
+
+    fn replace(&mut self, _text: &[u8]) -> Result<(), Fault> {
+        Err(Fault::Failed)
+    }
+}
+
+// How often the store failed whose folder takes no text, when marks were read and a load was opened.
+fn faults_of_full_folder(alloc: Global) -> Result<u64, Fault> {
+    let source = MemSource::new(Bytes::new(alloc), FailList::new(alloc));
+    let sink = MemSink::new(alloc, FailList::new(alloc));
+    let keeper = FileKeeper::new(alloc, FullFolder);
+    let mut dock = FileDock::new(alloc, MOMENT, keeper, source, sink)?;
+    dock.open_store("full")?;
+    calls_before_opening(alloc, &mut dock)?;
+    Ok(dock.counts().store_faults)
+}
+
+#[test]
+fn a_store_that_cannot_be_written_is_a_fault(rt: HostRuntime) -> Result<(), Fail> {
+    assert_eq!(rt; faults_of_full_folder(rt.alloc())?, 1);
     Ok(())
 }

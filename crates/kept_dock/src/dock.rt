@@ -3,7 +3,7 @@ ghost use Rattle.std.specs.Prelude.{◌≡◌};
 ghost use Rattle.outside.specs.Link.{kind_of};
 
 use crate::Keeper;
-use crate::store::{open_load, read_marks, read_unmerged};
+use crate::store::{open_load, open_store, read_marks, read_unmerged};
 use line_streams::{InputLines, OutputLines};
 use outside::{
     Dock, DockCounts, DockTally, Fault, Load, LoadPlan, MarksList, NoMemory, PollKind, Polled,
@@ -13,8 +13,9 @@ use std::alloc::Global;
 
 /// A destination over a keeper of tables, with lines of a source of bytes as its input and a sink of bytes as its output.
 ///
-/// An emitted line is written through before its call answers. A poll reads the source at most once, and waits where that
-/// does. The dock tells no events.
+/// An emitted line is written through before its call answers. A poll reads the source until a line is whole or the source
+/// ends, and waits where that does: so bytes that come in small pieces are never counted as silence. The empty name is no
+/// store: to open it is `Failed`, and a store that is open stays so. The dock tells no events.
 #[derive(Drop)]
 pub struct KeptDock<K: Keeper + Drop, I: Source + Drop, W: Sink + Drop> {
     alloc: Global,
@@ -41,15 +42,13 @@ fn kind_of_poll(polled: &Polled) -> PollKind
 }
 
 impl<K: Keeper + Drop, I: Source + Drop, W: Sink + Drop> KeptDock<K, I, W> {
-    ghost use Rattle.std.specs.Prelude.{◌≡◌, [], None, IfOk};
+    ghost use Rattle.std.specs.Prelude.{◌≡◌, [], false, IfOk};
     ghost use Rattle.basics.specs.Told.{RoseIf};
+    ghost use Rattle.basics.specs.declared.limits.TheConstants.{LONGEST_LINE};
 
     /// A dock of which no store is open, whose loads begin at this moment, in milliseconds since 1970.
     pub fn new(alloc: Global, moment: u64, keeper: K, source: I, sink: W) -> Result<Self, NoMemory>
-        ensures moment { IfOk result (λ dock. dock.moment ≡ moment) }
-        ensures streams { IfOk result (λ dock. dock.side_marks ≡ []) }
-        ensures counts { IfOk result (λ dock. dock.tally ≡ record { read_faults = 0; store_faults = 0; write_faults = 0; quiet = 0; opens = 0 }) }
-        ensures rows_read { IfOk result (λ dock. dock.rows_read ≡ 0) }
+        ensures { IfOk result (λ dock. dock ≡ record { alloc = alloc; moment = moment; keeper = keeper; input = record { unread = record { limit = LONGEST_LINE; bytes = [] }; held = []; left = I.left source; is_over = false; faults = I.faults source }; output = record { bytes = W.bytes sink; faults = W.faults sink; is_broken = false; part = 0 }; tally = record { read_faults = 0; store_faults = 0; write_faults = 0; quiet = 0; opens = 0 }; poll = PollKind.Other; side_marks = []; rows_read = 0 }) }
     {
         Ok(KeptDock {
             alloc,
@@ -89,7 +88,7 @@ impl<K: Keeper + Drop, I: Source + Drop, W: Sink + Drop> Dock for KeptDock<K, I,
     ghost seen = { λ dock. record { trace = None; counts = dock.tally; face = record { poll = dock.poll; side_marks = dock.side_marks; hand = None; moment = Some dock.moment }; rows_read = dock.rows_read } };
 
     fn open_store(&mut self, name: &str) -> Result<(), Fault> {
-        match self.keeper.open(name) {
+        match open_store(&mut self.keeper, name) {
             Ok(()) => {
                 self.tally.opens = self.tally.opens.saturating_add(1);
                 Ok(())

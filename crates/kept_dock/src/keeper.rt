@@ -15,7 +15,8 @@ pub struct KeptLoad {
 /// disk holds: the dock above tests what it must. Before a store is opened its other calls fail. A call that answers a
 /// fault has made its change wholly or not at all, and not where memory was wanting.
 pub trait Keeper {
-    /// Opens the store of that name, or makes it; one that was open is closed first.
+    /// Opens the store of that name, or makes it; one that was open is closed first. What stands there and is no store of
+    /// the form is `Failed`, and stays as it was.
     fn open(&mut self, name: &str) -> Result<(), Fault>;
 
     /// The marks of these streams, in their order.

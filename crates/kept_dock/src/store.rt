@@ -1,11 +1,21 @@
 // The answers of a keeper that are tested, each with what holds of it whatever the keeper is.
-ghost use Rattle.std.specs.Prelude.{◌≡◌, IfOk, length};
+ghost use Rattle.std.specs.Prelude.{◌≡◌, [], IfOk, IsErrOf, length};
 ghost use Rattle.outside.specs.Dock.{HasStreams, IsPage};
 
 use crate::page::{are_places, is_page};
 use crate::{Keeper, KeptLoad};
 use outside::{Fault, LoadPlan, MarksList, StreamIdList, StreamNo, Unmerged};
 use std::alloc::Global;
+
+/// Opens the store of that name, or makes it; the empty name is none.
+pub fn open_store<K: Keeper>(keeper: &mut K, name: &str) -> Result<(), Fault>
+    ensures { name.now ≡ [] → IsErrOf result Fault.Failed }
+{
+    if name.is_empty() {
+        return Err(Fault::Failed);
+    }
+    keeper.open(name)
+}
 
 /// The marks of these streams.
 pub fn read_marks<K: Keeper>(

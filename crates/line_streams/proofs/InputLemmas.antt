@@ -5,7 +5,10 @@ use Rattle.std.proofs.lemmas.Bool.{ltb-false}
 use Rattle.text_lines.specs.Lines.{is_line, pieces_of}
 use Rattle.piecewise_lines.specs.Unread.{Unread}
 use Rattle.piecewise_lines.specs.Next.{next_of, answer_of}
+use Rattle.piecewise_lines.specs.declared.NextLine.{NextLine}
 use Rattle.piecewise_lines.specs.declared.NextLine.TheVariants as answer
+use Rattle.basics.specs.declared.limits.TheConstants.{LONGEST_LINE}
+use Rattle.line_streams.specs.Input.{IsShort}
 
 -- where nothing was read, what the source has is to come
 pub nothing_read : (bytes : List ℕ) (left : Option (List ℕ)) → bytes ≡ [] → option_map (λ left. bytes ++ ([] ++ left)) left ≡ left
@@ -29,3 +32,8 @@ next_within limit (piece ∷ following ∷ pieces) line e = by_case (next_within
 
 pub line_within : (unread : Unread) (line : List ℕ) → answer.Line line ≡ answer_of unread → length line ≤ unread.limit
 line_within unread line e = next_within unread.limit (pieces_of unread.bytes) line e
+
+pub short_next : (unread : Unread) (given : NextLine) → given ≡ answer_of unread → unread.limit ≡ LONGEST_LINE → IsShort given
+short_next unread (answer.Line line) e limit = subst (λ (n : ℕ). length line ≤ n) limit (line_within unread line e)
+short_next unread answer.TooLong e limit = tt
+short_next unread answer.More e limit = tt

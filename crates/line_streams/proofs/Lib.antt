@@ -1,2 +1,4 @@
+pub mod BlankLemmas
+pub mod CauseLemmas
 pub mod InputLemmas
 pub mod OutputLemmas

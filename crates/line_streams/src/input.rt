@@ -11,6 +11,7 @@ const CHUNK: usize = 65_536;
 
 /// The lines of a source, none longer than the limit on lines.
 ///
+/// A piece between newlines is a line where it is not blank.
 /// What was read stays until it is given: an answer of want of memory or a failed read loses nothing.
 #[derive(Drop)]
 pub struct InputLines<I: Source + Drop> {
@@ -37,17 +38,18 @@ impl<I: Source + Drop> Model for InputLines<I> {
 }
 
 impl<I: Source + Drop> InputLines<I> {
-    ghost use Rattle.std.specs.Prelude.{◌≡◌, [], ◌↔◌, IsTrue, IfOk, OnOk, OnErr, IfSome, IsErrOf};
+    ghost use Rattle.std.specs.Prelude.{◌≡◌, [], false, ◌↔◌, IsTrue, IfOk, OnOk, OnErr, IfSome, IsErrOf};
     ghost use Rattle.basics.specs.Told.{RoseIf};
+    ghost use Rattle.basics.specs.declared.limits.TheConstants.{LONGEST_LINE};
     ghost use Rattle.outside.specs.Dock.{IsWithinLimit};
     ghost use Rattle.outside.specs.FaultCounts.{StaysUnlessFailed};
-    ghost use Rattle.piecewise_lines.specs.Next.{fed, IsTorn};
-    ghost use Rattle.line_streams.specs.Input.{to_come, GivesInOrder, HasNoLine};
+    ghost use Rattle.piecewise_lines.specs.Next.{fed, given_by, IsTorn};
+    ghost use Rattle.line_streams.specs.Input.{to_come, LeavesLines, GivesInOrder, HasNoLine, IsSame, IsShort, Answered, Answers, AreRead, HasCause, GoesOnOrCause};
 
     /// Nothing was read yet.
     pub fn new(alloc: Global, source: I) -> Result<Self, NoMemory>
+        ensures value { IfOk result (λ input. input ≡ record { unread = record { limit = LONGEST_LINE; bytes = [] }; held = []; left = I.left source; is_over = false; faults = I.faults source }) }
         ensures to_come { IfOk result (λ input. to_come input ≡ I.left source) }
-        ensures faults { IfOk result (λ input. input.faults ≡ I.faults source) }
     {
         Ok(InputLines {
             source,
@@ -68,40 +70,32 @@ impl<I: Source + Drop> InputLines<I> {
         Ok(())
     }
 
-    // The next line of what was read.
-    #[tactic(auto, using(crate::proofs::InputLemmas::line_within))]
-    fn ready(&mut self) -> Polled
-        ensures order { GivesInOrder result (to_come self.old) (to_come self.new) }
-        ensures within { IsWithinLimit result }
-        ensures more { result ≡ Polled.NotYet → IsTorn self.new.unread × (self.new.held ≡ []) }
+    // What comes next of all that was read.
+    #[tactic(auto, using(crate::proofs::InputLemmas::short_next))]
+    fn next_line(&mut self) -> Result<NextLine, NoMemory>
+        ensures answer { IfOk result (λ given. Answered given (fed self.old.unread self.old.held) self.new) }
+        ensures order { IfOk result (λ given. LeavesLines (given_by given) (to_come self.old) (to_come self.new)) }
+        ensures torn { IfOk result (λ given. given ≡ NextLine.More → IsTorn self.new.unread) }
+        ensures within { IfOk result IsShort }
+        ensures err { OnErr result (IsSame (fed self.new.unread self.new.held) (fed self.old.unread self.old.held)) }
+        ensures kept { OnErr result (to_come self.new ≡ to_come self.old) }
         ensures others { self.new ≡ record (self.old) { unread = self.new.unread; held = self.new.held } }
-        ensures no_end { ¬ result ≡ Polled.End }
-        ensures no_failure { ¬ result ≡ Polled.Failed }
     {
-        if self.feed().is_err() {
-            return Polled::NoMemory;
-        }
-        match self.lines.next() {
-            Ok(NextLine::Line(line)) => Polled::Line(line),
-            Ok(NextLine::TooLong) => Polled::TooLong,
-            Ok(NextLine::More) => Polled::NotYet,
-            Err(_) => Polled::NoMemory,
-        }
+        self.feed()?;
+        self.lines.next()
     }
 
-    // Reads once, unless the source has ended.
+    // Reads once.
     fn read(&mut self) -> Result<(), Fault>
-        requires { self.old.held ≡ [] }
+        requires held { self.old.held ≡ [] }
+        requires going { self.old.is_over ≡ false }
         ensures to_come { to_come self.new ≡ to_come self.old }
         ensures unread { self.new.unread ≡ self.old.unread }
-        ensures over { OnOk result (IsTrue self.new.is_over → self.new.held ≡ []) }
+        ensures read { OnOk result (AreRead self.new.held self.old.left self.new.left) }
         ensures err { OnErr result (self.new ≡ record (self.old) { faults = self.new.faults }) }
         ensures faults { RoseIf (IsErrOf result Fault.Failed) self.old.faults self.new.faults }
         ensures stays { StaysUnlessFailed result self.old.faults self.new.faults }
     {
-        if self.is_over {
-            return Ok(());
-        }
         let count = self.source.read(&mut self.room)?;
         self.held = count as usize;
         self.is_over = count == 0;
@@ -109,6 +103,7 @@ impl<I: Source + Drop> InputLines<I> {
     }
 
     // What comes behind the last newline.
+    #[tactic(auto, using(crate::proofs::CauseLemmas::torn_wants))]
     fn end(&mut self) -> Polled
         requires torn { IsTorn self.old.unread }
         requires held { self.old.held ≡ [] }
@@ -116,6 +111,7 @@ impl<I: Source + Drop> InputLines<I> {
         ensures order { GivesInOrder result (to_come self.old) (to_come self.new) }
         ensures within { IsWithinLimit result }
         ensures end { result ≡ Polled.End → HasNoLine (to_come self.new) }
+        ensures cause { Answers result self.old.unread self.new }
         ensures others { self.new ≡ record (self.old) { unread = self.new.unread } }
         ensures no_failure { ¬ result ≡ Polled.Failed }
     {
@@ -125,12 +121,32 @@ impl<I: Source + Drop> InputLines<I> {
         }
     }
 
-    /// The next line, where one stands ready or comes by one read of the source, which may wait for bytes. `NotYet`
-    /// where no line is whole then; what is too long stays so; behind the last line the answer is `End`.
-    pub fn poll(&mut self) -> Polled
+    // What is to be answered by all that was read; `NotYet` where more has to be read first.
+    #[tactic(auto, using(crate::proofs::CauseLemmas::left_answers))]
+    fn ready(&mut self) -> Polled
         ensures order { GivesInOrder result (to_come self.old) (to_come self.new) }
         ensures within { IsWithinLimit result }
         ensures end { result ≡ Polled.End → HasNoLine (to_come self.new) }
+        ensures cause { Answers result (fed self.old.unread self.old.held) self.new }
+        ensures others { self.new ≡ record (self.old) { unread = self.new.unread; held = self.new.held } }
+        ensures no_failure { ¬ result ≡ Polled.Failed }
+    {
+        match self.next_line() {
+            Ok(NextLine::Line(line)) => Polled::Line(line),
+            Ok(NextLine::TooLong) => Polled::TooLong,
+            Ok(NextLine::More) if self.is_over => self.end(),
+            Ok(NextLine::More) => Polled::NotYet,
+            Err(_) => Polled::NoMemory,
+        }
+    }
+
+    // Reads once where nothing is to be answered before; `NotYet` where that went well.
+    #[tactic(auto, using(crate::proofs::CauseLemmas::read_cause, crate::proofs::CauseLemmas::turn_reads, crate::proofs::CauseLemmas::turn_fails, crate::proofs::CauseLemmas::turn_wants))]
+    fn turn(&mut self) -> Polled
+        ensures order { GivesInOrder result (to_come self.old) (to_come self.new) }
+        ensures within { IsWithinLimit result }
+        ensures end { result ≡ Polled.End → HasNoLine (to_come self.new) }
+        ensures cause { GoesOnOrCause result self.old self.new }
         ensures faults { RoseIf (result ≡ Polled.Failed) self.old.faults self.new.faults }
         ensures stays { (¬ result ≡ Polled.Failed) → self.new.faults ≡ self.old.faults }
     {
@@ -139,10 +155,31 @@ impl<I: Source + Drop> InputLines<I> {
             polled => return polled,
         }
         match self.read() {
-            Ok(()) if self.is_over => self.end(),
-            Ok(()) => self.ready(),
+            Ok(()) => Polled::NotYet,
             Err(Fault::Failed) => Polled::Failed,
             Err(Fault::NoMemory) => Polled::NoMemory,
         }
+    }
+
+    /// The next line. The source is read until a line has its newline, or the source has ended, or a read fails or wants
+    /// memory; it may wait for bytes. A piece that is longer than the limit is `TooLong`, and stays so. What comes
+    /// behind the last newline is `Torn`; behind the last line the answer is `End`. `NotYet` comes only after 2^64 - 1
+    /// reads that brought no line, so that bytes that come one by one are never taken for silence.
+    #[tactic(auto, using(crate::proofs::CauseLemmas::goes_nowhere, crate::proofs::CauseLemmas::goes_further, crate::proofs::CauseLemmas::cause_after, crate::proofs::CauseLemmas::cause_at_last))]
+    pub fn poll(&mut self) -> Polled
+        ensures order { GivesInOrder result (to_come self.old) (to_come self.new) }
+        ensures within { IsWithinLimit result }
+        ensures end { result ≡ Polled.End → HasNoLine (to_come self.new) }
+        ensures cause { HasCause result self.old self.new }
+        ensures faults { RoseIf (result ≡ Polled.Failed) self.old.faults self.new.faults }
+        ensures stays { (¬ result ≡ Polled.Failed) → self.new.faults ≡ self.old.faults }
+    {
+        for _ in 0..u64::MAX {
+            match self.turn() {
+                Polled::NotYet => {}
+                polled => return polled,
+            }
+        }
+        self.ready()
     }
 }

@@ -1,49 +1,56 @@
 // What is asked of a database, and of what opens one.
-use crate::{Answer, Cell};
+use crate::{Parameter, ResultSet};
 use outside::Fault;
-use sqlite::Statement;
 
 /// A compiled statement.
-pub struct Prepared {
-    statement: Statement,
+pub struct Statement {
+    compiled: sqlite::Statement,
 }
 
-impl Drop for Prepared {
+impl Drop for Statement {
     fn drop(self) {
-        let Prepared { statement: _ } = self;
+        let Statement { compiled: _ } = self;
     }
 }
 
-impl Prepared {
-    pub(crate) fn new(statement: Statement) -> Self {
-        Prepared { statement }
+impl Statement {
+    pub(crate) fn new(compiled: sqlite::Statement) -> Self {
+        Statement { compiled }
     }
 
-    pub(crate) fn statement(&self) -> &Statement {
-        &self.statement
+    pub(crate) fn compiled(&self) -> &sqlite::Statement {
+        &self.compiled
     }
 }
 
 /// A database. A statement that answers a fault outside a transaction has changed nothing, or what it says; within one,
-/// the transaction may have been rolled back, which `is_settled` tells.
+/// the transaction may have been rolled back, which `is_autocommit` tells.
 pub trait Database {
     /// Runs statements, parted by semicolons, that give no rows.
-    fn run_text(&mut self, sql: &str) -> Result<(), Fault>;
+    fn execute_batch(&mut self, sql: &str) -> Result<(), Fault>;
 
     /// Compiles a statement.
-    fn prepare(&mut self, sql: &str) -> Result<Prepared, Fault>;
+    fn prepare(&mut self, sql: &str) -> Result<Statement, Fault>;
 
     /// Runs a compiled statement that gives no rows.
-    fn run(&mut self, prepared: &Prepared, cells: &[Cell<'_>]) -> Result<(), Fault>;
+    fn execute(
+        &mut self,
+        statement: &Statement,
+        parameters: &[Parameter<'_>],
+    ) -> Result<(), Fault>;
 
     /// All rows that a compiled statement gives.
-    fn rows(&mut self, prepared: &Prepared, cells: &[Cell<'_>]) -> Result<Answer, Fault>;
+    fn query(
+        &mut self,
+        statement: &Statement,
+        parameters: &[Parameter<'_>],
+    ) -> Result<ResultSet, Fault>;
 
     /// Whether no transaction is open.
-    fn is_settled(&mut self) -> bool;
+    fn is_autocommit(&mut self) -> bool;
 }
 
-/// What opens databases by their names.
+/// What opens databases by their names. The empty name is `Failed`.
 pub trait Opener {
     type Base: Database + Drop;
 

@@ -4,13 +4,13 @@
 //! a `Drop` that is written out, so that nothing above proves again how a connection's parts are dropped.
 #![tactic(auto)]
 
-mod answer;
-mod cell;
 mod database;
 mod fault;
-mod stored;
+mod open_database;
+mod parameter;
+mod result_set;
 
-pub use answer::Answer;
-pub use cell::Cell;
-pub use database::{Database, Opener, Prepared};
-pub use stored::Stored;
+pub use database::{Database, Opener, Statement};
+pub use open_database::OpenDatabase;
+pub use parameter::{LONGEST_VALUE, Parameter};
+pub use result_set::ResultSet;

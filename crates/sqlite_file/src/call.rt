@@ -1,36 +1,38 @@
 // The calls on a database as values, so that one function makes them all.
 use outside::Fault;
-use sqlite_calls::{Answer, Cell, Database, Prepared};
+use sqlite_calls::{Database, Parameter, ResultSet, Statement};
 
 #[derive(Clone, Copy)]
 pub enum Call<'a> {
-    RunText(&'a str),
+    ExecuteBatch(&'a str),
     Prepare(&'a str),
-    Run(&'a Prepared, &'a [Cell<'a>]),
-    Rows(&'a Prepared, &'a [Cell<'a>]),
-    IsSettled,
+    Execute(&'a Statement, &'a [Parameter<'a>]),
+    Query(&'a Statement, &'a [Parameter<'a>]),
+    IsAutocommit,
 }
 
 #[derive(Drop)]
 pub enum Reply {
     Done,
-    Prepared(Prepared),
-    Rows(Answer),
-    IsSettled(bool),
+    Statement(Statement),
+    Rows(ResultSet),
+    IsAutocommit(bool),
 }
 
 pub fn answer<D: Database>(database: &mut D, call: Call<'_>) -> Result<Reply, Fault> {
     match call {
-        Call::RunText(sql) => {
-            database.run_text(sql)?;
+        Call::ExecuteBatch(sql) => {
+            database.execute_batch(sql)?;
             Ok(Reply::Done)
         }
-        Call::Prepare(sql) => Ok(Reply::Prepared(database.prepare(sql)?)),
-        Call::Run(prepared, cells) => {
-            database.run(prepared, cells)?;
+        Call::Prepare(sql) => Ok(Reply::Statement(database.prepare(sql)?)),
+        Call::Execute(statement, parameters) => {
+            database.execute(statement, parameters)?;
             Ok(Reply::Done)
         }
-        Call::Rows(prepared, cells) => Ok(Reply::Rows(database.rows(prepared, cells)?)),
-        Call::IsSettled => Ok(Reply::IsSettled(database.is_settled())),
+        Call::Query(statement, parameters) => {
+            Ok(Reply::Rows(database.query(statement, parameters)?))
+        }
+        Call::IsAutocommit => Ok(Reply::IsAutocommit(database.is_autocommit())),
     }
 }

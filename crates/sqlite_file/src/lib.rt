@@ -6,60 +6,69 @@ mod call;
 use crate::call::{Call, Reply, answer};
 use outside::Fault;
 use sqlite::{Connection, File, FileStore};
-use sqlite_calls::{Answer, Cell, Database, Opener, Prepared, Stored};
+use sqlite_calls::{Database, OpenDatabase, Opener, Parameter, ResultSet, Statement};
 
 /// A database in a file.
 pub struct FileDatabase {
-    stored: Stored<FileStore<File>>,
+    database: OpenDatabase<FileStore<File>>,
 }
 
 impl Drop for FileDatabase {
     fn drop(self) {
-        let FileDatabase { stored: _ } = self;
+        let FileDatabase { database: _ } = self;
     }
 }
 
 impl FileDatabase {
     fn ask(&mut self, call: Call<'_>) -> Result<Reply, Fault> {
-        answer(&mut self.stored, call)
+        answer(&mut self.database, call)
     }
 }
 
 impl Database for FileDatabase {
-    fn run_text(&mut self, sql: &str) -> Result<(), Fault> {
-        self.ask(Call::RunText(sql))?;
+    fn execute_batch(&mut self, sql: &str) -> Result<(), Fault> {
+        self.ask(Call::ExecuteBatch(sql))?;
         Ok(())
     }
 
-    fn prepare(&mut self, sql: &str) -> Result<Prepared, Fault> {
+    fn prepare(&mut self, sql: &str) -> Result<Statement, Fault> {
         match self.ask(Call::Prepare(sql))? {
-            Reply::Prepared(prepared) => Ok(prepared),
+            Reply::Statement(statement) => Ok(statement),
             _ => Err(Fault::Failed),
         }
     }
 
-    fn run(&mut self, prepared: &Prepared, cells: &[Cell<'_>]) -> Result<(), Fault> {
-        self.ask(Call::Run(prepared, cells))?;
+    fn execute(
+        &mut self,
+        statement: &Statement,
+        parameters: &[Parameter<'_>],
+    ) -> Result<(), Fault> {
+        self.ask(Call::Execute(statement, parameters))?;
         Ok(())
     }
 
-    fn rows(&mut self, prepared: &Prepared, cells: &[Cell<'_>]) -> Result<Answer, Fault> {
-        match self.ask(Call::Rows(prepared, cells))? {
+    fn query(
+        &mut self,
+        statement: &Statement,
+        parameters: &[Parameter<'_>],
+    ) -> Result<ResultSet, Fault> {
+        match self.ask(Call::Query(statement, parameters))? {
             Reply::Rows(rows) => Ok(rows),
             _ => Err(Fault::Failed),
         }
     }
 
-    fn is_settled(&mut self) -> bool {
-        matches!(self.ask(Call::IsSettled), Ok(Reply::IsSettled(true)))
+    fn is_autocommit(&mut self) -> bool {
+        matches!(self.ask(Call::IsAutocommit), Ok(Reply::IsAutocommit(true)))
     }
 }
 
-/// Opens databases in files, each by the path of its file.
+/// Opens databases in files, each by the path of its file. The empty path is `Failed`.
 ///
 /// An open reads and checks the whole file, and holds the bytes of its largest table meanwhile. The file is locked until
 /// the database is dropped; one that another program has locked is `Failed` at once. Beside it stands a log, whose name
-/// has `-wal` behind the file's, and which is part of the database.
+/// has `-wal` behind the file's, and which is part of the database. The library syncs the file, its log and their folder
+/// at each open, so that a database that is new outlives a power cut.
 #[derive(Drop)]
 pub struct FileOpener<'a> {
     runtime: &'a HostRuntime,
@@ -76,8 +85,12 @@ impl Opener for FileOpener<'_> {
     type Base = FileDatabase;
 
     fn open(&mut self, name: &str) -> Result<FileDatabase, Fault> {
-        let stored = Stored::over(self.runtime.alloc(), Connection::open(self.runtime, name))?;
-        Ok(FileDatabase { stored })
+        if name.is_empty() {
+            return Err(Fault::Failed);
+        }
+        let opened = Connection::open(self.runtime, name);
+        let database = OpenDatabase::over(self.runtime.alloc(), opened)?;
+        Ok(FileDatabase { database })
     }
 
     fn open_existing(&mut self, name: &str) -> Result<FileDatabase, Fault> {

@@ -2,6 +2,7 @@
 //! dock above tests what it must.
 #![tactic(auto)]
 
+mod form;
 mod part;
 mod rows;
 mod schema;

@@ -4,7 +4,7 @@ use crate::schema::{GROUP, ROW_WIDTH};
 use crate::statements::{Insert, Statements};
 use crate::stream_line::{StreamLine, find_or_add_stream, set_stream};
 use outside::{Fault, RawRow, StreamPlan};
-use sqlite_calls::{Cell, Database, Prepared};
+use sqlite_calls::{Database, Parameter, Statement};
 use std::alloc::Global;
 
 const SHOWN: u64 = 0;
@@ -70,8 +70,11 @@ pub fn open_part<B: Database>(
 ) -> Result<Part, Fault> {
     let before = find_or_add_stream(base, &statements.streams, &plan.id)?;
     if plan.hidden && !before.is_kept_for(plan) {
-        let hidden = [Cell::Number(before.stream), Cell::Number(HIDDEN)];
-        base.run(&statements.rows.drop_side, &hidden)?;
+        let hidden = [
+            Parameter::Integer(before.stream),
+            Parameter::Integer(HIDDEN),
+        ];
+        base.execute(&statements.rows.drop_side, &hidden)?;
     }
     let line = before.opened(plan);
     set_stream(base, &statements.streams, &line)?;
@@ -86,26 +89,26 @@ pub fn open_part<B: Database>(
 fn put_group<B: Database>(
     alloc: Global,
     base: &mut B,
-    insert: &Prepared,
-    lead: &[Cell<'static>],
+    insert: &Statement,
+    lead: &[Parameter<'static>],
     rows: &[RawRow],
 ) -> Result<(), Fault> {
-    let mut cells = Vec::with_capacity(alloc, GROUP * (ROW_WIDTH + 2))?;
+    let mut parameters = Vec::with_capacity(alloc, GROUP * (ROW_WIDTH + 2))?;
     for row in rows {
-        for cell in lead {
-            cells.push(*cell)?;
+        for parameter in lead {
+            parameters.push(*parameter)?;
         }
-        push_row(&mut cells, row)?;
+        push_row(&mut parameters, row)?;
     }
-    base.run(insert, cells.as_slice())
+    base.execute(insert, parameters.as_slice())
 }
 
-/// Puts rows, each behind the cells that lead it.
+/// Puts rows, each behind the parameters that lead it.
 pub fn put_rows<B: Database>(
     alloc: Global,
     base: &mut B,
     insert: &Insert,
-    lead: &[Cell<'static>],
+    lead: &[Parameter<'static>],
     rows: &[RawRow],
 ) -> Result<(), Fault> {
     for group in rows.chunks(GROUP) {
@@ -121,8 +124,8 @@ pub fn put_rows<B: Database>(
 fn put_one_by_one<B: Database>(
     alloc: Global,
     base: &mut B,
-    insert: &Prepared,
-    lead: &[Cell<'static>],
+    insert: &Statement,
+    lead: &[Parameter<'static>],
     rows: &[RawRow],
 ) -> Result<(), Fault> {
     for row in rows {
@@ -139,7 +142,10 @@ pub fn merge_part<B: Database>(
     part: &Part,
     winners: &[RawRow],
 ) -> Result<(), Fault> {
-    let lead = [Cell::Number(part.line.stream), Cell::Number(part.side())];
+    let lead = [
+        Parameter::Integer(part.line.stream),
+        Parameter::Integer(part.side()),
+    ];
     put_rows(alloc, base, &statements.rows.merge, &lead, winners)?;
     set_stream(base, &statements.streams, &part.line)
 }
@@ -151,10 +157,13 @@ pub fn show_part<B: Database>(
     statements: &Statements,
     part: &Part,
 ) -> Result<(), Fault> {
-    let stream = Cell::Number(part.line.stream);
-    let floor = Cell::Number(part.line.marks.floor);
-    base.run(&statements.rows.drop_below, &[stream, floor])?;
-    base.run(&statements.rows.drop_side, &[stream, Cell::Number(SHOWN)])?;
-    base.run(&statements.rows.show_side, &[stream])?;
+    let stream = Parameter::Integer(part.line.stream);
+    let floor = Parameter::Integer(part.line.marks.floor);
+    base.execute(&statements.rows.drop_below, &[stream, floor])?;
+    base.execute(
+        &statements.rows.drop_side,
+        &[stream, Parameter::Integer(SHOWN)],
+    )?;
+    base.execute(&statements.rows.show_side, &[stream])?;
     set_stream(base, &statements.streams, &part.line)
 }

@@ -2,14 +2,29 @@
 use outside::Fault;
 use std::alloc::Global;
 
-/// Makes the tables that are missing. A side is 0 for the shown one and 1 for the hidden one; a namespace that is absent
-/// is the empty text with `has_ns` 0; a mark is a `pos`, and 0 where nothing was merged.
-pub const TABLES: &str = "BEGIN;
-CREATE TABLE IF NOT EXISTS loads (load INTEGER PRIMARY KEY, moment INTEGER NOT NULL);
-CREATE TABLE IF NOT EXISTS streams (stream INTEGER PRIMARY KEY, name TEXT NOT NULL, has_ns INTEGER NOT NULL, namespace TEXT NOT NULL, floor INTEGER NOT NULL, top INTEGER, greatest INTEGER, shown_mark INTEGER NOT NULL, hidden_mark INTEGER NOT NULL, hidden_minimum INTEGER, hidden_generation INTEGER, UNIQUE (name, has_ns, namespace));
-CREATE TABLE IF NOT EXISTS raw_rows (pos INTEGER PRIMARY KEY AUTOINCREMENT, stream INTEGER NOT NULL, load INTEGER NOT NULL, seq INTEGER NOT NULL, generation INTEGER NOT NULL, extracted_at INTEGER NOT NULL, loaded_at INTEGER NOT NULL, raw_id TEXT NOT NULL, \"key\" BLOB NOT NULL, cursor BLOB NOT NULL, body TEXT NOT NULL, columns TEXT NOT NULL, meta TEXT NOT NULL, UNIQUE (load, seq));
-CREATE TABLE IF NOT EXISTS final_rows (stream INTEGER NOT NULL, side INTEGER NOT NULL, load INTEGER NOT NULL, seq INTEGER NOT NULL, generation INTEGER NOT NULL, extracted_at INTEGER NOT NULL, loaded_at INTEGER NOT NULL, raw_id TEXT NOT NULL, \"key\" BLOB NOT NULL, cursor BLOB NOT NULL, body TEXT NOT NULL, columns TEXT NOT NULL, meta TEXT NOT NULL, PRIMARY KEY (stream, side, \"key\"));
-COMMIT;";
+/// A table: its name, and its columns and keys as they are written behind that where it is made.
+pub type Layout = (&'static str, &'static str);
+
+/// The tables. A side is 0 for the shown one and 1 for the hidden one; a namespace that is absent is the empty text with
+/// `has_ns` 0; a mark is a `pos`, and 0 where nothing was merged.
+pub const TABLES: [Layout; 4] = [
+    (
+        "loads",
+        "(load INTEGER PRIMARY KEY, moment INTEGER NOT NULL)",
+    ),
+    (
+        "streams",
+        "(stream INTEGER PRIMARY KEY, name TEXT NOT NULL, has_ns INTEGER NOT NULL, namespace TEXT NOT NULL, floor INTEGER NOT NULL, top INTEGER, greatest INTEGER, shown_mark INTEGER NOT NULL, hidden_mark INTEGER NOT NULL, hidden_minimum INTEGER, hidden_generation INTEGER, UNIQUE (name, has_ns, namespace))",
+    ),
+    (
+        "raw_rows",
+        "(pos INTEGER PRIMARY KEY AUTOINCREMENT, stream INTEGER NOT NULL, load INTEGER NOT NULL, seq INTEGER NOT NULL, generation INTEGER NOT NULL, extracted_at INTEGER NOT NULL, loaded_at INTEGER NOT NULL, raw_id TEXT NOT NULL, \"key\" BLOB NOT NULL, cursor BLOB NOT NULL, body TEXT NOT NULL, columns TEXT NOT NULL, meta TEXT NOT NULL, UNIQUE (load, seq))",
+    ),
+    (
+        "final_rows",
+        "(stream INTEGER NOT NULL, side INTEGER NOT NULL, load INTEGER NOT NULL, seq INTEGER NOT NULL, generation INTEGER NOT NULL, extracted_at INTEGER NOT NULL, loaded_at INTEGER NOT NULL, raw_id TEXT NOT NULL, \"key\" BLOB NOT NULL, cursor BLOB NOT NULL, body TEXT NOT NULL, columns TEXT NOT NULL, meta TEXT NOT NULL, PRIMARY KEY (stream, side, \"key\"))",
+    ),
+];
 
 /// The columns of a row, in the order in which rows are bound and read.
 pub const ROW_COLUMNS: &str =

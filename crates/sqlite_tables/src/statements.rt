@@ -1,24 +1,24 @@
 // The statements of an open store, compiled once.
-use crate::schema::{GROUP, ROW_COLUMNS, ROW_WIDTH, TABLES, insert_text};
+use crate::schema::{GROUP, ROW_COLUMNS, ROW_WIDTH, insert_text};
 use outside::Fault;
-use sqlite_calls::{Database, Prepared};
+use sqlite_calls::{Database, Statement};
 use std::alloc::Global;
 
 /// Statements on loads and streams.
 #[derive(Drop)]
 pub struct StreamStatements {
-    pub last_load: Prepared,
-    pub add_load: Prepared,
-    pub find: Prepared,
-    pub add: Prepared,
-    pub set: Prepared,
+    pub last_load: Statement,
+    pub add_load: Statement,
+    pub find: Statement,
+    pub add: Statement,
+    pub set: Statement,
 }
 
 /// Statements that put rows, as many as a group has or one.
 #[derive(Drop)]
 pub struct Insert {
-    pub group: Prepared,
-    pub one: Prepared,
+    pub group: Statement,
+    pub one: Statement,
 }
 
 /// Statements on rows.
@@ -26,11 +26,11 @@ pub struct Insert {
 pub struct RowStatements {
     pub commit: Insert,
     pub merge: Insert,
-    pub page: Prepared,
-    pub winner: Prepared,
-    pub drop_below: Prepared,
-    pub drop_side: Prepared,
-    pub show_side: Prepared,
+    pub page: Statement,
+    pub winner: Statement,
+    pub drop_below: Statement,
+    pub drop_side: Statement,
+    pub show_side: Statement,
 }
 
 /// All of them.
@@ -92,9 +92,8 @@ fn row_statements<B: Database>(alloc: Global, base: &mut B) -> Result<RowStateme
     })
 }
 
-/// Makes the tables that are missing, and compiles all statements.
+/// Compiles all statements.
 pub fn make_statements<B: Database>(alloc: Global, base: &mut B) -> Result<Statements, Fault> {
-    base.run_text(TABLES)?;
     Ok(Statements {
         streams: stream_statements(base)?,
         rows: row_statements(alloc, base)?,

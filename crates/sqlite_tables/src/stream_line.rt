@@ -1,8 +1,8 @@
 // What the store knows of a stream, and what a load makes of it.
-use crate::rows::{cell_of, number_at, optional_number_at};
+use crate::rows::{integer_at, optional_integer_at, parameter_of};
 use crate::statements::StreamStatements;
 use outside::{Fault, Marks, StreamId, StreamPlan};
-use sqlite_calls::{Cell, Database};
+use sqlite_calls::{Database, Parameter};
 
 /// A row of the table of streams.
 #[derive(Clone, Copy, Debug)]
@@ -17,15 +17,15 @@ pub struct StreamLine {
     pub hidden_generation: Option<u64>,
 }
 
-fn id_cells(id: &StreamId) -> [Cell<'_>; 3] {
-    let name = Cell::Text(id.name.as_str().as_bytes());
+fn id_parameters(id: &StreamId) -> [Parameter<'_>; 3] {
+    let name = Parameter::Text(id.name.as_str().as_bytes());
     match &id.namespace {
         Some(namespace) => [
             name,
-            Cell::Number(1),
-            Cell::Text(namespace.as_str().as_bytes()),
+            Parameter::Integer(1),
+            Parameter::Text(namespace.as_str().as_bytes()),
         ],
-        None => [name, Cell::Number(0), Cell::Text(b"")],
+        None => [name, Parameter::Integer(0), Parameter::Text(b"")],
     }
 }
 
@@ -35,21 +35,21 @@ pub fn find_stream<B: Database>(
     statements: &StreamStatements,
     id: &StreamId,
 ) -> Result<Option<StreamLine>, Fault> {
-    let answer = base.rows(&statements.find, &id_cells(id))?;
-    if answer.is_empty() {
+    let found = base.query(&statements.find, &id_parameters(id))?;
+    if found.is_empty() {
         return Ok(None);
     }
     Ok(Some(StreamLine {
-        stream: number_at(&answer, 0, 0)?,
+        stream: integer_at(&found, 0, 0)?,
         marks: Marks {
-            floor: number_at(&answer, 0, 1)?,
-            top: optional_number_at(&answer, 0, 2)?,
-            greatest: optional_number_at(&answer, 0, 3)?,
+            floor: integer_at(&found, 0, 1)?,
+            top: optional_integer_at(&found, 0, 2)?,
+            greatest: optional_integer_at(&found, 0, 3)?,
         },
-        shown_mark: number_at(&answer, 0, 4)?,
-        hidden_mark: number_at(&answer, 0, 5)?,
-        hidden_minimum: optional_number_at(&answer, 0, 6)?,
-        hidden_generation: optional_number_at(&answer, 0, 7)?,
+        shown_mark: integer_at(&found, 0, 4)?,
+        hidden_mark: integer_at(&found, 0, 5)?,
+        hidden_minimum: optional_integer_at(&found, 0, 6)?,
+        hidden_generation: optional_integer_at(&found, 0, 7)?,
     }))
 }
 
@@ -71,17 +71,17 @@ pub fn set_stream<B: Database>(
     statements: &StreamStatements,
     line: &StreamLine,
 ) -> Result<(), Fault> {
-    let cells = [
-        Cell::Number(line.stream),
-        Cell::Number(line.marks.floor),
-        cell_of(line.marks.top),
-        cell_of(line.marks.greatest),
-        Cell::Number(line.shown_mark),
-        Cell::Number(line.hidden_mark),
-        cell_of(line.hidden_minimum),
-        cell_of(line.hidden_generation),
+    let parameters = [
+        Parameter::Integer(line.stream),
+        Parameter::Integer(line.marks.floor),
+        parameter_of(line.marks.top),
+        parameter_of(line.marks.greatest),
+        Parameter::Integer(line.shown_mark),
+        Parameter::Integer(line.hidden_mark),
+        parameter_of(line.hidden_minimum),
+        parameter_of(line.hidden_generation),
     ];
-    base.run(&statements.set, &cells)
+    base.execute(&statements.set, &parameters)
 }
 
 /// What the store knows of a stream, which is added where it never came.
@@ -93,7 +93,7 @@ pub fn find_or_add_stream<B: Database>(
     if let Some(line) = find_stream(base, statements, id)? {
         return Ok(line);
     }
-    base.run(&statements.add, &id_cells(id))?;
+    base.execute(&statements.add, &id_parameters(id))?;
     find_stream(base, statements, id)?.ok_or(Fault::Failed)
 }
 

@@ -1,12 +1,13 @@
 // An open store, and the load that is open in it.
+use crate::form::open_tables;
 use crate::part::{Part, merge_part, open_part, put_rows, show_part};
-use crate::rows::{number_at, row_at};
+use crate::rows::{integer_at, row_at};
 use crate::schema::ROW_WIDTH;
 use crate::statements::{Statements, make_statements};
 use crate::stream_line::{find_stream, marks_of};
-use crate::transaction::settle;
+use crate::transaction::end_transaction;
 use outside::{Fault, LoadPlan, MarksList, RawRow, RawRowList, Sequence, StreamIdList, Unmerged};
-use sqlite_calls::{Answer, Cell, Database};
+use sqlite_calls::{Database, Parameter, ResultSet};
 use std::alloc::Global;
 
 /// A load that was opened, with the marks of its sides in the order of its streams.
@@ -27,11 +28,11 @@ pub struct SqlTables<B: Database + Drop> {
 }
 
 fn next_load<B: Database>(base: &mut B, statements: &Statements) -> Result<u64, Fault> {
-    let last = base.rows(&statements.streams.last_load, &[])?;
+    let last = base.query(&statements.streams.last_load, &[])?;
     if last.is_empty() {
         return Ok(1);
     }
-    number_at(&last, 0, 0)?.checked_add(1).ok_or(Fault::Failed)
+    integer_at(&last, 0, 0)?.checked_add(1).ok_or(Fault::Failed)
 }
 
 fn open_parts<B: Database>(
@@ -42,8 +43,8 @@ fn open_parts<B: Database>(
     moment: u64,
 ) -> Result<(u64, Vec<Part>), Fault> {
     let load = next_load(base, statements)?;
-    let cells = [Cell::Number(load), Cell::Number(moment)];
-    base.run(&statements.streams.add_load, &cells)?;
+    let parameters = [Parameter::Integer(load), Parameter::Integer(moment)];
+    base.execute(&statements.streams.add_load, &parameters)?;
     let mut parts = Vec::with_capacity(alloc, plan.len())?;
     for stream in plan.as_slice() {
         parts.push(open_part(base, statements, stream)?)?;
@@ -59,27 +60,30 @@ fn marks_of_parts(alloc: Global, parts: &[Part]) -> Result<Sequence<u64>, Fault>
     Ok(marks)
 }
 
-// The first rows of an answer, at most so many, with the place of the last of them.
-fn page_of(alloc: Global, answer: &Answer, mark: u64, most: u32) -> Result<Unmerged, Fault> {
-    let count = answer.len().min(most as usize);
+// The first rows of a result set, at most so many, with the place of the last of them.
+fn page_of(alloc: Global, found: &ResultSet, mark: u64, most: u32) -> Result<Unmerged, Fault> {
+    let count = found.len().min(most as usize);
     let mut rows = RawRowList::with_capacity(alloc, count)?;
     for at in 0..count {
-        rows.push(row_at(alloc, answer, at)?)?;
+        rows.push(row_at(alloc, found, at)?)?;
     }
     let mark = match count.checked_sub(1) {
-        Some(last) => number_at(answer, last, ROW_WIDTH)?,
+        Some(last) => integer_at(found, last, ROW_WIDTH)?,
         None => mark,
     };
     Ok(Unmerged {
         rows,
         mark,
-        more: answer.len() > count,
+        more: found.len() > count,
     })
 }
 
 impl<B: Database + Drop> SqlTables<B> {
-    /// The tables of a database, which are made where they are missing. No load is open.
+    /// The tables of a database, which are made where none of them stands. No load is open. A database that has some of
+    /// them, or has them with other columns or keys, or with a row that is not of their form, is `Failed`, and stays as
+    /// it was.
     pub fn over(alloc: Global, mut base: B) -> Result<Self, Fault> {
+        open_tables(alloc, &mut base)?;
         let statements = make_statements(alloc, &mut base)?;
         Ok(SqlTables {
             alloc,
@@ -114,7 +118,7 @@ impl<B: Database + Drop> SqlTables<B> {
 
     /// Opens a load of these streams, one above the last, in place of that which was open.
     pub fn open_load(&mut self, plan: &LoadPlan, moment: u64) -> Result<OpenedLoad, Fault> {
-        self.base.run_text("BEGIN")?;
+        self.base.execute_batch("BEGIN")?;
         let opened = open_parts(self.alloc, &mut self.base, &self.statements, plan, moment);
         let with_marks = match opened {
             Ok((load, parts)) => match marks_of_parts(self.alloc, &parts) {
@@ -123,7 +127,7 @@ impl<B: Database + Drop> SqlTables<B> {
             },
             Err(fault) => Err(fault),
         };
-        let (load, parts, side_marks) = settle(&mut self.base, with_marks)?;
+        let (load, parts, side_marks) = end_transaction(&mut self.base, with_marks)?;
         self.parts = parts;
         Ok(OpenedLoad { load, side_marks })
     }
@@ -131,11 +135,11 @@ impl<B: Database + Drop> SqlTables<B> {
     /// Commits rows of a stream of the load.
     pub fn commit(&mut self, stream: usize, rows: &RawRowList) -> Result<(), Fault> {
         let part = self.part(stream)?;
-        self.base.run_text("BEGIN")?;
-        let lead = [Cell::Number(part.line.stream)];
+        self.base.execute_batch("BEGIN")?;
+        let lead = [Parameter::Integer(part.line.stream)];
         let insert = &self.statements.rows.commit;
         let put = put_rows(self.alloc, &mut self.base, insert, &lead, rows.as_slice());
-        settle(&mut self.base, put)
+        end_transaction(&mut self.base, put)
     }
 
     /// The next rows that the side of a stream has not merged, at most `most` of them.
@@ -148,15 +152,15 @@ impl<B: Database + Drop> SqlTables<B> {
                 more: false,
             });
         };
-        let cells = [
-            Cell::Number(part.mark()),
-            Cell::Number(part.line.stream),
-            Cell::Number(low),
-            Cell::Number(high),
-            Cell::Number(u64::from(most).saturating_add(1)),
+        let parameters = [
+            Parameter::Integer(part.mark()),
+            Parameter::Integer(part.line.stream),
+            Parameter::Integer(low),
+            Parameter::Integer(high),
+            Parameter::Integer(u64::from(most).saturating_add(1)),
         ];
-        let answer = self.base.rows(&self.statements.rows.page, &cells)?;
-        page_of(alloc, &answer, part.mark(), most)
+        let found = self.base.query(&self.statements.rows.page, &parameters)?;
+        page_of(alloc, &found, part.mark(), most)
     }
 
     /// The winner of a key on the side of a stream.
@@ -167,22 +171,22 @@ impl<B: Database + Drop> SqlTables<B> {
         key: &[u8],
     ) -> Result<Option<RawRow>, Fault> {
         let part = self.part(stream)?;
-        let cells = [
-            Cell::Number(part.line.stream),
-            Cell::Number(part.side()),
-            Cell::Blob(key),
+        let parameters = [
+            Parameter::Integer(part.line.stream),
+            Parameter::Integer(part.side()),
+            Parameter::Blob(key),
         ];
-        let answer = self.base.rows(&self.statements.rows.winner, &cells)?;
-        if answer.is_empty() {
+        let found = self.base.query(&self.statements.rows.winner, &parameters)?;
+        if found.is_empty() {
             return Ok(None);
         }
-        Ok(Some(row_at(alloc, &answer, 0)?))
+        Ok(Some(row_at(alloc, &found, 0)?))
     }
 
     /// Puts winners in the place of those of their keys, and sets the mark of the stream's side.
     pub fn merge(&mut self, stream: usize, winners: &RawRowList, mark: u64) -> Result<(), Fault> {
         let part = self.part(stream)?.merged(mark);
-        self.base.run_text("BEGIN")?;
+        self.base.execute_batch("BEGIN")?;
         let merged = merge_part(
             self.alloc,
             &mut self.base,
@@ -190,7 +194,7 @@ impl<B: Database + Drop> SqlTables<B> {
             &part,
             winners.as_slice(),
         );
-        settle(&mut self.base, merged)?;
+        end_transaction(&mut self.base, merged)?;
         self.set_part(stream, part);
         Ok(())
     }
@@ -202,9 +206,9 @@ impl<B: Database + Drop> SqlTables<B> {
             return Ok(());
         }
         let part = before.shown();
-        self.base.run_text("BEGIN")?;
+        self.base.execute_batch("BEGIN")?;
         let shown = show_part(&mut self.base, &self.statements, &part);
-        settle(&mut self.base, shown)?;
+        end_transaction(&mut self.base, shown)?;
         self.set_part(stream, part);
         Ok(())
     }

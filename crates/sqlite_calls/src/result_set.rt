@@ -3,20 +3,20 @@ use sqlite::Row;
 use sqlite::types::ValueRef;
 
 /// The rows that a statement gave. Rows and columns are counted from 0.
-pub struct Answer {
+pub struct ResultSet {
     rows: Vec<Row>,
 }
 
-impl Drop for Answer {
+impl Drop for ResultSet {
     fn drop(self) {
-        let Answer { rows: _ } = self;
+        let ResultSet { rows: _ } = self;
     }
 }
 
-impl Answer {
+impl ResultSet {
     /// These rows.
     pub(crate) fn new(rows: Vec<Row>) -> Self {
-        Answer { rows }
+        ResultSet { rows }
     }
 
     /// How many rows there are.
@@ -34,7 +34,7 @@ impl Answer {
     }
 
     /// The whole number in a column, where it is not negative.
-    pub fn number(&self, row: usize, column: usize) -> Option<u64> {
+    pub fn integer(&self, row: usize, column: usize) -> Option<u64> {
         match self.value(row, column)? {
             ValueRef::Int(number) => u64::try_from(number).ok(),
             _ => None,
@@ -46,10 +46,18 @@ impl Answer {
         matches!(self.value(row, column), Some(ValueRef::Null))
     }
 
-    /// The bytes of a text or a blob in a column.
-    pub fn bytes(&self, row: usize, column: usize) -> Option<&[u8]> {
+    /// The bytes of a text in a column.
+    pub fn text(&self, row: usize, column: usize) -> Option<&[u8]> {
         match self.value(row, column)? {
-            ValueRef::Text(bytes) | ValueRef::Blob(bytes) => Some(bytes),
+            ValueRef::Text(bytes) => Some(bytes),
+            _ => None,
+        }
+    }
+
+    /// The bytes of a blob in a column.
+    pub fn blob(&self, row: usize, column: usize) -> Option<&[u8]> {
+        match self.value(row, column)? {
+            ValueRef::Blob(bytes) => Some(bytes),
             _ => None,
         }
     }
