@@ -33,11 +33,7 @@ pub trait Database {
     fn prepare(&mut self, sql: &str) -> Result<Statement, Fault>;
 
     /// Runs a compiled statement that gives no rows.
-    fn execute(
-        &mut self,
-        statement: &Statement,
-        parameters: &[Parameter<'_>],
-    ) -> Result<(), Fault>;
+    fn execute(&mut self, statement: &Statement, parameters: &[Parameter<'_>]) -> Result<(), Fault>;
 
     /// All rows that a compiled statement gives.
     fn query(
