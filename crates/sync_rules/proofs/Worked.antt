@@ -1,0 +1,206 @@
+-- The worked standings.
+use Rattle.std.proofs.Common.{arith, ◌≡◌, ◌⊎◌, inl, inr, ◌<◌, ℕ, zero, suc, List, [], ◌∷◌, ◌++◌, Bool, true, false, Option, None, Some, refl, sym, ◌∙◌, ap, subst}
+use Rattle.std.specs.Prelude.{Result, Ok, Err, is_some, fold}
+use Rattle.std.specs.Str.{bytes_eq}
+use Rattle.std.proofs.lemmas.Bool.{false≢true}
+use Rattle.outside.specs.declared.event.AttemptPlan.{AttemptPlan}
+use Rattle.outside.specs.declared.event.Event.TheVariants as event
+use Rattle.outside.specs.declared.event.Exit.{Exit}
+use Rattle.outside.specs.declared.event.Exit.TheVariants.{Code, Signal}
+use Rattle.outside.specs.declared.faults.StateFault.{StateFault}
+use Rattle.airbyte_message.specs.Lanes.{one}
+use Rattle.catalog.specs.declared.stream.ConfStream.{ConfStream}
+use Rattle.catalog.specs.declared.stream.Gen.{Gen}
+use Rattle.load_rules.specs.Examples.{a, b, configured, both_streams}
+use Rattle.load_rules.specs.Lines.{line_read}
+use Rattle.load_rules.specs.Taken.{LaneState, Entry}
+use Rattle.load_rules.specs.Honest.{IsCommitted}
+use Rattle.load_rules.specs.Attempts.{Waiting, none_given, with_given, attempts, attempt_events}
+use Rattle.state_kinds.specs.Saved.{Saved, state_of}
+use Rattle.state_kinds.specs.Changes.{begun, given_of, put_into}
+use Rattle.state_kinds.specs.Texts.{store_text}
+use Rattle.sync_rules.specs.Generations.{Begins, gens_of, Held, generations_in}
+use Rattle.sync_rules.specs.Sync.{Running, Sync, completion}
+use Rattle.sync_rules.specs.SafeSync.{commits, IsAsked, IsCovered}
+use Rattle.sync_rules.specs.Steps.{Saves, Puts}
+use Rattle.sync_rules.specs.Examples.{GenerationsAsWorked, BreachesAsWorked, SyncsAsWorked, restarting, only_a, tell, held_a, held_both, gen, stands, begun_again, by_signal, failed, state_back, died, taken_a, taken_all}
+
+pub generations_as_worked : GenerationsAsWorked
+generations_as_worked = record {
+  restarts_a = refl;
+  goes_on = refl;
+  resumes = refl;
+  untold_restarts = refl;
+  first = refl;
+  next = refl;
+  told_greater = refl;
+  last = refl;
+  spent = refl;
+  second_spent = refl;
+  other = refl;
+}
+
+pub breaches_as_worked : BreachesAsWorked
+breaches_as_worked = record {
+  miscount = refl;
+  right_count = refl;
+  counted_anew = refl;
+  mixed = refl;
+  mixed_with_saved = refl;
+  alone = refl;
+  legacy = refl;
+  unknown = refl;
+  no_message = refl;
+}
+
+none_some : {A : Type 0} {x : A} → None ≡ Some x → ⊥
+none_some e = false≢true (ap is_some e)
+
+some_none : {A : Type 0} {x : A} → Some x ≡ None → ⊥
+some_none e = false≢true (ap is_some (sym e))
+
+some_is : {A : Type 0} {x y : A} → Some x ≡ Some y → x ≡ y
+some_is e = cc
+
+-- the only set that an attempt begins with
+begun_is : (streams : List ConfStream) (old set : Saved) (gens known : List Gen) → gens_of old streams ≡ Some known → Begins streams old gens set → set ≡ begun (given_of streams known) old
+begun_is streams old set gens known are begins = begins.is ∙ ap (λ list. begun (given_of streams list) old) (some_is (sym begins.gens_are ∙ are))
+
+abbrev put_or : Saved → Result Saved StateFault → Saved
+put_or set (Ok put) = put
+put_or set (Err fault) = set
+
+put_is : (result : Result Saved StateFault) (set : Saved) → result ≡ Ok set → put_or set result ≡ set
+put_is result set is = ap (put_or set) is
+
+abbrev is_put : Result Saved StateFault → Bool
+is_put (Ok put) = true
+is_put (Err fault) = false
+
+is_put_of : (result : Result Saved StateFault) (set : Saved) → result ≡ Ok set → is_put result ≡ true
+is_put_of result set is = ap is_put is
+
+abbrev exit_number : Option Exit → ℕ
+exit_number None = 9
+exit_number (Some (Code code)) = code
+exit_number (Some Signal) = 9
+
+number_is : (exit other : Option Exit) → exit ≡ other → exit_number exit ≡ exit_number other
+number_is exit other is = ap exit_number is
+
+-- what is saved is what the one or the other leaves
+saved_by : (streams : List ConfStream) (Beside : LaneState → Type 0) (sync : Sync) (text : List ℕ) (now : Sync) (known : List Gen) (P : Saved → Type 0) → gens_of sync.set streams ≡ Some known
+    → P (begun (given_of streams known) sync.set) → ((set : Saved) → Puts streams tell Beside sync set → P set)
+    → Saves streams tell Beside sync text now → P now.set
+saved_by streams Beside sync text now known P are begins puts saves = subst (λ (it : Sync). P it.set) (sym saves.is) (by saves.by)
+  where
+    by : ((gens : List Gen) × Begins streams sync.set gens saves.set) ⊎ Puts streams tell Beside sync saves.set → P saves.set
+    by (inl begun_so) = subst P (sym (begun_is streams sync.set saves.set begun_so.0 known are begun_so.1)) begins
+    by (inr put_so) = puts saves.set put_so
+
+-- the state that is put is the one that is owed
+put_of : (old set : Saved) (state taken : LaneState) → Some taken ≡ Some state → put_into state.state old ≡ Ok set → put_into taken.state old ≡ Ok set
+put_of old set state taken owed put = subst (λ (it : LaneState). put_into it.state old ≡ Ok set) (sym (some_is owed)) put
+
+abbrev last_held : List Held → ℕ
+last_held held = fold (λ number it. it.generation) 0 held
+
+one_zero : (m n : ℕ) → m ≡ n → m ≡ 1 → n ≡ 0 → ⊥
+one_zero m n same one_is zero_is = omega (arith, same, one_is, zero_is)
+
+generation_is : (own : Running) (start : Saved) (held : List Held) → Some (record { start = start; events = state_back }) ≡ Some own → held ≡ generations_in own.start → held ≡ generations_in start
+generation_is own start held same kept = kept ∙ ap (λ (it : Running). generations_in it.start) (sym (some_is same))
+
+none_committed : (plan : AttemptPlan) (entry : Entry) → IsCommitted only_a (attempt_events (attempts (event.Started plan ∷ state_back))) entry → ⊥
+none_committed plan entry is = (let within : is.among.0 < 0 = is.among.1 in omega (arith, within))
+
+nil_cons : {A : Type 0} {x : A} {xs : List A} → [] ≡ x ∷ xs → ⊥
+nil_cons e = grind (arith, e)
+
+abbrev back : LaneState
+back = record { lane = one a; state = taken_a.state; before = [] }
+
+abbrev first_given : Waiting
+first_given = with_given (one a) (line_read tell (1 ∷ [])) none_given
+
+ended_ill : (is : ((rest : List (List ℕ)) × ([] ≡ (completion a ∷ []) ++ rest)) ⊎ (failed.source ≡ Some (Code 0))) → ⊥
+ended_ill (inl prefix) = nil_cons prefix.1
+ended_ill (inr code) = one_zero (exit_number failed.source) (exit_number (Some (Code 0))) (number_is failed.source (Some (Code 0)) code) refl refl
+
+pub syncs_as_worked : SyncsAsWorked
+syncs_as_worked = record {
+  leads = (
+    stands (held_a 0 None) (event.ReadLine (1 ∷ []) ∷ []) None,
+    ((refl, refl), refl),
+    (
+      stands (held_a 0 None) (event.ReadLine (1 ∷ []) ∷ event.ReadLine (2 ∷ []) ∷ []) None,
+      ((refl, refl), refl),
+      (
+        stands (held_a 0 None) (event.ReadLine (1 ∷ []) ∷ event.ReadLine (2 ∷ []) ∷ event.Given (1 ∷ []) ∷ []) None,
+        ((refl, record { input_open = refl; unbroken = (refl, (refl, tt)); next = ((2 ∷ []) ∷ [], refl) }), refl),
+        (
+          stands (held_a 0 None) (event.ReadLine (1 ∷ []) ∷ event.ReadLine (2 ∷ []) ∷ event.Given (1 ∷ []) ∷ event.Given (2 ∷ []) ∷ []) None,
+          ((refl, record { input_open = refl; unbroken = (refl, (refl, tt)); next = ([], refl) }), refl),
+          (
+            stands (held_a 0 None) state_back (Some taken_a),
+            (
+              refl,
+              record {
+                going = refl;
+                none_owed = refl;
+                owed = Some taken_a;
+                takes = (
+                  back,
+                  refl,
+                  record {
+                    waiting = with_given (one a) (line_read tell (2 ∷ [])) first_given;
+                    waits = (none_given, refl, (none_given, refl, (first_given, refl, (with_given (one a) (line_read tell (2 ∷ [])) first_given, refl, refl))));
+                    rest = [];
+                    takes = record { over = []; splits = refl; others = tt; same = (refl, refl) };
+                  },
+                );
+                is = refl;
+              },
+            ),
+            (
+              stands (held_a 0 None) died (Some taken_a),
+              ((refl, inl ([], refl)), refl),
+              (
+                begun_again (held_a 0 None) (held_a 1 None) died,
+                record { set = held_a 1 None; text_is = refl; by = inl (gen 1 ∷ [], record { gens_are = refl; is = refl }); is = refl },
+                refl,
+              ),
+            ),
+          ),
+        ),
+      ),
+    ),
+  );
+  dropped_stays = λ text now fits. saved_by (restarting a ∷ []) (λ state. Unit {0}) (begun_again (held_a 0 None) (held_a 1 None) died) text now (gen 2 ∷ []) (λ set. set ≡ held_a 2 None) refl refl (λ set puts. absurd (none_some puts.owed)) fits;
+  put_once = record {
+    set = held_a 0 (Some (2 ∷ []));
+    text_is = refl;
+    by = inr (record { attempt = record { start = held_a 0 None; events = state_back }; in_attempt = refl; state = taken_a; owed = refl; passed_on = (0, omega arith, refl); kept = refl; put = refl; beside = tt });
+    is = refl;
+  };
+  saved_first = λ now step. some_none step.1.none_owed;
+  behind_end = λ now step. false≢true (sym step.0.0);
+  stores_own = refl;
+  completes = ((refl, record { input_open = refl; unbroken = tt; next = ([], refl) }), refl);
+  too_early = λ now step. nil_cons step.0.1.next.1;
+  not_failed = λ now step. ended_ill step.0.1;
+  refused_line = λ now step. some_none step.0.1.unbroken.1.1.0;
+  before_it = ((refl, record { input_open = refl; unbroken = (refl, (refl, tt)); next = ((1 ∷ []) ∷ [], refl) }), refl);
+  log_line = λ now step. nil_cons step.0.1.next.1;
+  other_generation = λ text now fits. saved_by (restarting a ∷ []) (λ state. Unit {0}) (record (stands (held_a 0 None) state_back (Some taken_a)) { set = held_a 1 None }) text now (gen 2 ∷ []) (λ set. set ≡ held_a 2 None) refl refl
+      (λ set puts. absurd (one_zero (last_held (generations_in (held_a 1 None))) (last_held (generations_in (held_a 0 None))) (ap last_held (generation_is puts.attempt (held_a 0 None) (generations_in (held_a 1 None)) puts.in_attempt puts.kept)) refl refl)) fits;
+  uncommitted = λ plan text now fits. saved_by only_a (IsAsked only_a commits (event.Started plan ∷ state_back)) (stands (held_a 0 None) state_back (Some taken_a)) text now (gen 0 ∷ []) (λ set. set ≡ held_a 0 None) refl refl
+      (λ set puts. absurd (let beside : IsCovered only_a (event.Started plan ∷ state_back) taken_a = subst (IsCovered only_a (event.Started plan ∷ state_back)) (sym (some_is puts.owed)) puts.beside in none_committed plan (record { seq = 0; content = record { id = a; body = []; emitted_at = 1; meta = None } }) (beside.0 refl))) fits;
+  other_kind = λ text now fits. saved_by only_a (λ state. Unit {0}) (stands (held_a 0 (Some (2 ∷ []))) [] (Some taken_all)) text now (gen 0 ∷ []) (λ set. set ≡ held_a 0 (Some (2 ∷ []))) refl refl
+      (λ set puts. absurd (false≢true (is_put_of (put_into taken_all.state (held_a 0 (Some (2 ∷ [])))) set (put_of (held_a 0 (Some (2 ∷ []))) set puts.state taken_all puts.owed puts.put)))) fits;
+  keeps_b = λ text now fits. saved_by both_streams (λ state. Unit {0}) (stands (held_both None (Some (7 ∷ []))) state_back (Some taken_a)) text now (gen 0 ∷ gen 0 ∷ []) (λ set. state_of set.entries b ≡ Some (7 ∷ [])) refl refl
+      (λ set puts. subst (λ (it : Saved). state_of it.entries b ≡ Some (7 ∷ [])) (put_is (put_into taken_a.state (held_both None (Some (7 ∷ [])))) set (put_of (held_both None (Some (7 ∷ []))) set puts.state taken_a puts.owed puts.put)) refl) fits;
+  goes_on = λ plan catalog states. (record { saved = refl; gens = gen 0 ∷ []; begins = record { gens_are = refl; is = refl }; catalog = catalog; states = states }, refl);
+  without_states = λ plan states now step. false≢true (sym (ap (bytes_eq (91 ∷ 2 ∷ 93 ∷ [])) (sym step.0.states ∙ states)));
+  not_begun = λ plan now step. false≢true step.0.saved;
+}

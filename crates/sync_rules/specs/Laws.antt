@@ -1,0 +1,124 @@
+-- What holds of each sync: of its prefixes and of what goes on behind it, of what it gives, saves and takes.
+use Rattle.std.specs.List.{AllByRecursion}
+use Rattle.std.specs.Prelude.{◌≡◌, ◌⊎◌, ℕ, ◌<◌, List, [], ◌∷◌, ◌++◌, filter, length, true, Option, None, Some, Ok}
+use Rattle.basics.specs.declared.stream.StreamId.{StreamId}
+use Rattle.outside.specs.Event.{is_links, stored}
+use Rattle.outside.specs.declared.event.Event.{Event}
+use Rattle.outside.specs.declared.event.Event.TheVariants as event
+use Rattle.catalog.specs.Reading.{ids_of}
+use Rattle.catalog.specs.declared.stream.ConfStream.{ConfStream}
+use Rattle.load_rules.specs.Prefixes.{IsPrefix}
+use Rattle.load_rules.specs.Lines.{Reading, IsReading, line_read}
+use Rattle.load_rules.specs.Taken.{LaneState, states}
+use Rattle.load_rules.specs.Attempts.{Attempt, attempts, gives, TakesState}
+use Rattle.load_rules.specs.Honest.{AddsHonestly}
+use Rattle.message_writer.specs.Forms.{HasNames}
+use Rattle.state_kinds.specs.Saved.{Saved, nothing_saved}
+use Rattle.state_kinds.specs.Changes.{put_into}
+use Rattle.state_kinds.specs.Texts.{store_text}
+use Rattle.sync_rules.specs.Sync.{Running, Sync, to_give}
+use Rattle.sync_rules.specs.Steps.{Step}
+use Rattle.sync_rules.specs.SafeSync.{Asked, commits, nothing, Goes, IsCovered, Leads, IsSafeSync}
+
+-- ---- how a sync goes on
+
+-- what leads from here to there, and on from there, leads from here on
+abbrev pub WaysJoin : Type 0
+WaysJoin =
+    (streams : List ConfStream) (read : Reading) (asked : Asked) (before events more : List Event) (sync between now : Sync)
+    → Goes streams read asked before sync events between → Goes streams read asked (before ++ events) between more now → Goes streams read asked before sync (events ++ more) now
+
+-- what leads over two lists leads over the first, and on from there
+pub record Parted (streams : List ConfStream) (read : Reading) (asked : Asked) (before events more : List Event) (sync now : Sync) : Type 0 where
+  pub between : Sync
+  pub first : Goes streams read asked before sync events between
+  pub then : Goes streams read asked (before ++ events) between more now
+
+abbrev pub WaysPart : Type 0
+WaysPart =
+    (streams : List ConfStream) (read : Reading) (asked : Asked) (before events more : List Event) (sync now : Sync)
+    → Goes streams read asked before sync (events ++ more) now → Parted streams read asked before events more sync now
+
+-- each prefix of a safe sync is one
+abbrev pub FrontsAreSafe : Type 0
+FrontsAreSafe = (streams : List ConfStream) (read : Reading) (front rest : List Event) → IsSafeSync streams read (front ++ rest) → IsSafeSync streams read front
+
+-- a safe sync goes on safely by an event that fits where it stands
+abbrev pub StaysSafe : Type 0
+StaysSafe =
+    (streams : List ConfStream) (read : Reading) (trace : List Event) (sync : Sync) (event : Event) (now : Sync)
+    → Leads streams read commits trace sync → Step streams read (IsCovered streams trace) sync event now → Leads streams read commits (trace ++ event ∷ []) now
+
+-- a safe sync is a plain one, from the same standing to the same
+abbrev pub SafeIsPlain : Type 0
+SafeIsPlain =
+    (streams : List ConfStream) (read : Reading) (before events : List Event) (sync now : Sync)
+    → Goes streams read commits before sync events now → Goes streams read nothing before sync events now
+
+-- A plain sync is known by what the link adds by itself, whatever a destination's store does between, and whatever stands before.
+abbrev pub OwnEventsTell : Type 0
+OwnEventsTell =
+    (streams : List ConfStream) (read : Reading) (before behind events : List Event) (sync now : Sync)
+    → Goes streams read nothing before sync (filter is_links events) now → Goes streams read nothing behind sync events now
+
+-- ---- what the state store holds
+
+-- an empty store is that of the set before all events
+abbrev pub IsStoreOf : List ℕ → Saved → Type 0
+IsStoreOf text set = ((text ≡ []) × (set ≡ nothing_saved)) ⊎ (text ≡ store_text set)
+
+-- The store's text is that of the saved set.
+abbrev pub StoreHolds : Type 0
+StoreHolds = (streams : List ConfStream) (read : Reading) (asked : Asked) (trace : List Event) (now : Sync) → Leads streams read asked trace now → IsStoreOf (stored trace) now.set
+
+-- ---- what stands committed
+
+-- the sync stands behind these attempts, the last first: it knows what the link has added by itself in the last
+abbrev pub KnowsAttempt : Option Running → List Attempt → Type 0
+KnowsAttempt None [] = Unit {0}
+KnowsAttempt (Some own) (attempt ∷ older) = own.events ≡ filter is_links attempt.events
+KnowsAttempt None (attempt ∷ older) = ⊥
+KnowsAttempt (Some own) [] = ⊥
+
+abbrev pub Knows : Sync → List Event → Type 0
+Knows sync trace = KnowsAttempt sync.attempt (attempts trace)
+
+-- wherever the events lead, the attempt is known (that of no sync behind no events is)
+abbrev pub WaysKnow : Type 0
+WaysKnow =
+    (streams : List ConfStream) (read : Reading) (asked : Asked) (before events : List Event) (sync now : Sync)
+    → Knows sync before → Goes streams read asked before sync events now → Knows now (before ++ events)
+
+-- Where nothing is owed from before, what is added plainly and honestly is added safely, whatever was before.
+abbrev pub HonestIsSafe : Type 0
+HonestIsSafe =
+    (streams : List ConfStream) (read : Reading) (before more : List Event) (sync now : Sync)
+    → Knows sync before → sync.owed ≡ None → Goes streams read nothing before sync more now → AddsHonestly streams read before more
+    → Goes streams read commits before sync more now
+
+-- ---- what is given
+
+-- In every prefix the lines that an attempt was given are the first of those that are to be given.
+abbrev pub GivenArePassed : Type 0
+GivenArePassed =
+    (streams : List ConfStream) (read : Reading) (trace : List Event) (now : Sync) (attempt : Running)
+    → Leads streams read nothing trace now → now.attempt ≡ Some attempt → IsPrefix (gives attempt.events) (to_give (ids_of streams) read attempt.events)
+
+-- ---- what is taken
+
+-- Of two lines that come back in an attempt, of states of one lane, and that take given ones, the later takes one that was given
+-- later: so the states that are saved rise within each lane, in the order in which the source wrote them.
+abbrev pub TakenRise : Type 0
+TakenRise =
+    (read : Reading) (before more : List Event) (text : List ℕ) (back other first second : LaneState)
+    → states (line_read read text ∷ []) ≡ back ∷ [] → other.lane ≡ back.lane
+    → TakesState read before back first → TakesState read (before ++ event.Got text ∷ more) other second
+    → length first.before < length second.before
+
+-- What is owed can be put: the saved set takes it, being of its kind and having its stream. (The names of the streams are texts, as
+-- those of each catalog are.)
+abbrev pub SetsTake : Type 0
+SetsTake =
+    (streams : List ConfStream) (read : Reading) (asked : Asked) (trace : List Event) (now : Sync) (state : LaneState)
+    → IsReading read trace → AllByRecursion HasNames (ids_of streams) → Leads streams read asked trace now → now.owed ≡ Some state
+    → (set : Saved) × (put_into state.state now.set ≡ Ok set)

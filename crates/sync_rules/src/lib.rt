@@ -1,0 +1,10 @@
+//! What a sync of several attempts may be: the generations of each attempt, and when its saved states are safe.
+#![tactic(auto)]
+
+mod laws;
+
+pub use laws::{
+    breaches_as_worked, fronts_are_safe, generations_as_worked, given_are_passed, honest_is_safe,
+    own_events_tell, safe_is_plain, sets_take, stays_safe, store_holds, syncs_as_worked,
+    taken_rise, ways_join, ways_know, ways_part,
+};
