@@ -1,17 +1,23 @@
 -- What every book is: a run of the machine, and what its dock tells is the load of that run.
-use Rattle.std.specs.Prelude.{◌≡◌, ℕ, ◌+◌, ◌≤◌, List, [], ◌∷◌, ◌++◌, map, length, None, Some, IfSome, find}
-use Rattle.std.specs.List.{list_any}
-use Rattle.outside.specs.Dock.{dock_events, took_over}
+use Rattle.std.specs.Prelude.{◌≡◌, ◌⊎◌, ℕ, ◌+◌, ◌≤◌, ◌^◌, List, [], ◌∷◌, ◌++◌, map, filter_map, length, Option, None, Some, IfSome, find}
+use Rattle.std.specs.List.{AllByRecursion, list_any}
+use Rattle.outside.specs.Dock.{DockSeen, dock_events, took_over}
 use Rattle.outside.specs.declared.event.Event.{Event}
+use Rattle.outside.specs.declared.status.Status.{Status}
+use Rattle.outside.specs.declared.status.Status.TheVariants as status
 use Rattle.catalog.specs.Configured.{AreConfigured}
-use Rattle.load_rules.specs.Acts.{Act, Takes, AreActs}
+use Rattle.catalog.specs.declared.stream.ConfStream.{ConfStream}
+use Rattle.load_rules.specs.Acts.{Act, Takes, AreActs, taken, state_echoed}
 use Rattle.load_rules.specs.Bounded.{AreBounded, IsBounded}
+use Rattle.load_rules.specs.Engine.{PlansFit}
 use Rattle.load_rules.specs.Lines.{Reading, IsReading, line_read}
 use Rattle.load_rules.specs.Loads.{Load, Opening, loads}
-use Rattle.load_rules.specs.Machine.{Machine, Step, start, run, is_releasable}
+use Rattle.load_rules.specs.Machine.{Machine, Step, Accept, End, Seal, HandOut, Commit, TakeBack, Release, start, run, is_releasable}
 use Rattle.load_rules.specs.Prefixes.{EachFits}
+use Rattle.load_rules.specs.Taken.{entries}
 use Rattle.load_rules.specs.SafeDest.{Fits, uncommitted, IsSafeDest, IsSafeLoad}
-use Rattle.book_rules.specs.Holds.{Holds, is_end}
+use Rattle.book_rules.specs.declared.answer.Tally.{Tally}
+use Rattle.book_rules.specs.Holds.{Holds, is_end, lanes_among}
 use Rattle.book_rules.specs.Views.{BookView}
 
 -- at most so many records are taken and not committed behind an act
@@ -30,6 +36,21 @@ pub record Tells (opening : Opening) (acts : List Act) (unused : List (List ℕ)
   pub over : took_over trace ≡ list_any is_end acts
   pub acts_are : (read : Reading) → IsReading read load.events → AreActs read (acts ++ map (take_of read) unused) load.events
 
+-- The echoes that are counted are those that were emitted. One that could not be written may stand in the output uncounted.
+abbrev pub CountsEchoes : Option Status → ℕ → ℕ → Type 0
+CountsEchoes (Some status.WriteFault) counted emitted = (emitted ≡ counted) ⊎ (emitted ≡ counted + 1)
+CountsEchoes broken counted emitted = emitted ≡ counted
+
+-- What is counted, whether a book is broken or not: the lines that were taken, used or not, and the records among those that were
+-- used.
+pub record Tallied (tally : Tally) (next : ℕ) (acts : List Act) (unused : List (List ℕ)) : Type 0 where
+  pub lines : tally.lines ≡ length (taken acts) + length unused
+  pub most : tally.lines ≤ 2 ^ 32
+  pub records : next ≡ length (entries (taken acts))
+  pub lanes : tally.lanes ≡ lanes_among (taken acts)
+  pub emitted : CountsEchoes tally.broken tally.emitted (length (filter_map state_echoed acts))
+  pub ended : list_any is_end acts ≡ tally.is_ended
+
 -- no line, or one where a record more may be held
 abbrev pub AreUnused : ℕ → List Act → List (List ℕ) → Type 0
 AreUnused slots acts [] = Unit {0}
@@ -46,6 +67,7 @@ pub record Reached (book : BookView) (m : Machine) : Type 0 where
   pub unused_are : AreUnused book.limits.slots m.acts unused
   pub used : book.tally.broken ≡ None → unused ≡ []
   pub told : IfSome (dock_events book.seen) (Tells book.opening m.acts unused)
+  pub tallied : Tallied book.tally book.gate.next m.acts unused
 
 -- No state that waits may go.
 abbrev pub IsQuiet : Machine → Type 0
@@ -59,7 +81,9 @@ pub record IsBookOf (book : BookView) (m : Machine) : Type 0 where
 
 pub record IsBook (book : BookView) : Type 0 where
   pub configured : AreConfigured book.catalog
+  pub planned : PlansFit book.catalog book.opening.plan
   pub as_many : length book.seen.face.side_marks ≡ length book.catalog
+  pub queue_streams : book.queue.streams ≡ length book.catalog
   pub machine : Machine
   pub is : IsBookOf book machine
 
@@ -78,20 +102,79 @@ pub record LastIsSafe (book : BookView) (trace : List Event) : Type 0 where
 abbrev pub OwnLoadIsSafe : BookView → Type 0
 OwnLoadIsSafe book = IfSome (dock_events book.seen) (LastIsSafe book)
 
--- A call leaves the whole trace safe and bounded, where it was so before, by every reading that is right of its lines.
-pub record IsSafeTrace (book : BookView) (read : Reading) (trace : List Event) : Type 0 where
-  pub safe : IsSafeDest book.catalog read trace
-  pub bounded : AreBounded (book.limits.slots + 1) read trace
+-- A call leaves the whole trace safe, where it was so before, and bounded, where it was that, by every reading that is right of its
+-- lines.
+pub record StaySafe (streams : List ConfStream) (most : ℕ) (read : Reading) (before now : List Event) : Type 0 where
+  pub safe : IsSafeDest streams read before → IsSafeDest streams read now
+  pub bounded : AreBounded most read before → AreBounded most read now
+
+abbrev pub KeepsSafeOf : List ConfStream → ℕ → DockSeen → DockSeen → Type 0
+KeepsSafeOf streams most old new =
+    (read : Reading) (before now : List Event)
+    → dock_events old ≡ Some before → dock_events new ≡ Some now → IsReading read now → StaySafe streams most read before now
 
 abbrev pub KeepsSafe : BookView → BookView → Type 0
-KeepsSafe old new =
-    (read : Reading) (before now : List Event)
-    → dock_events old.seen ≡ Some before → dock_events new.seen ≡ Some now → IsReading read now → IsSafeTrace old read before → IsSafeTrace new read now
+KeepsSafe old new = KeepsSafeOf old.catalog (old.limits.slots + 1) old.seen new.seen
 
--- a call goes from each state of the machine that the book was to one that a run leads to
-pub record RunsTo (old new : BookView) (m : Machine) : Type 0 where
+-- What a call is to the machine: accept takes at most once, then seals, then releases; pick hands out at most once; put is one commit
+-- with its releases; a batch is taken back by its number; recall takes back.
+abbrev pub IsTaking : Step → Type 0
+IsTaking (Accept line) = Unit {0}
+IsTaking End = Unit {0}
+IsTaking step = ⊥
+
+abbrev pub IsSealing : Step → Type 0
+IsSealing (Seal id count) = Unit {0}
+IsSealing step = ⊥
+
+abbrev pub IsReleasing : Step → Type 0
+IsReleasing Release = Unit {0}
+IsReleasing step = ⊥
+
+abbrev pub IsTakingBack : Step → Type 0
+IsTakingBack (TakeBack id batch) = Unit {0}
+IsTakingBack step = ⊥
+
+abbrev pub IsTakingBackOf : ℕ → Step → Type 0
+IsTakingBackOf number (TakeBack id batch) = batch ≡ number
+IsTakingBackOf number step = ⊥
+
+pub record IsAcceptRun (steps : List Step) : Type 0 where
+  pub takes : List Step
+  pub seals : List Step
+  pub frees : List Step
+  pub splits : steps ≡ takes ++ (seals ++ frees)
+  pub once : length takes ≤ 1
+  pub taking : AllByRecursion IsTaking takes
+  pub sealing : AllByRecursion IsSealing seals
+  pub freeing : AllByRecursion IsReleasing frees
+
+abbrev pub IsPickRun : List Step → Type 0
+IsPickRun [] = Unit {0}
+IsPickRun (HandOut id count batch ∷ []) = Unit {0}
+IsPickRun steps = ⊥
+
+abbrev pub IsPutRun : List Step → Type 0
+IsPutRun [] = Unit {0}
+IsPutRun (Commit number id batch rows ∷ frees) = AllByRecursion IsReleasing frees
+IsPutRun steps = ⊥
+
+abbrev pub IsGiveBackRun : ℕ → List Step → Type 0
+IsGiveBackRun number steps = AllByRecursion (IsTakingBackOf number) steps
+
+abbrev pub IsRecallRun : List Step → Type 0
+IsRecallRun steps = AllByRecursion IsTakingBack steps
+
+-- no step
+abbrev pub IsNoRun : List Step → Type 0
+IsNoRun [] = Unit {0}
+IsNoRun (step ∷ steps) = ⊥
+
+-- a call goes from each state of the machine that the book was to one that such a run leads to
+pub record RunsTo (shape : List Step → Type 0) (old new : BookView) (m : Machine) : Type 0 where
   pub steps : List Step
+  pub shaped : shape steps
   pub leads : IsBookOf new (run old.catalog steps m)
 
-abbrev pub Runs : BookView → BookView → Type 0
-Runs old new = (m : Machine) → IsBookOf old m → RunsTo old new m
+abbrev pub Runs : (List Step → Type 0) → BookView → BookView → Type 0
+Runs shape old new = (m : Machine) → IsBookOf old m → RunsTo shape old new m

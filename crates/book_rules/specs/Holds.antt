@@ -1,5 +1,5 @@
 -- What the fields of a book stand for: a state of the machine behind its load.
-use Rattle.std.specs.Prelude.{◌≡◌, ◌≢◌, ℕ, ◌+◌, ◌<◌, ◌≤◌, ◌^◌, List, [], ◌∷◌, map, filter, filter_map, fold, length, slice_get, slice_index, not, Bool, true, false, Option, None, Some}
+use Rattle.std.specs.Prelude.{◌≡◌, ◌≢◌, ℕ, ◌+◌, ◌<◌, ◌≤◌, ◌^◌, List, [], ◌∷◌, map, filter, filter_map, fold, length, slice_get, slice_index, not, Bool, true, false, Option, None, Some, IfSome}
 use Rattle.std.specs.List.{AllByRecursion, list_any}
 use Rattle.basics.specs.declared.stream.StreamId.{StreamId}
 use Rattle.airbyte_message.specs.Lanes.{Lane, one, all, lane_of}
@@ -14,7 +14,7 @@ use Rattle.state_gate.specs.declared.pending.Accepted.{Accepted}
 use Rattle.state_gate.specs.declared.pending.Lane.{Lane as GateLane}
 use Rattle.state_gate.specs.declared.pending.Lane.TheVariants as gate_lane
 use Rattle.state_gate.specs.declared.pending.Waiting.{Waiting}
-use Rattle.book_queue.specs.Content.{Held, all_of}
+use Rattle.book_queue.specs.Content.{Held, all_of, number_below}
 use Rattle.book_queue.specs.Content as queue_place
 use Rattle.load_rules.specs.Lines.{Line, state_in}
 use Rattle.load_rules.specs.Taken.{LaneState, entries, since, count_of}
@@ -115,12 +115,10 @@ pub record Holds (book : BookView) (m : Machine) : Type 0 where
   pub slots : book.queue.slots ≡ book.limits.slots
   pub bytes : book.queue.bytes ≡ book.limits.bytes
   pub batch : book.queue.batch ≡ book.limits.batch
-  -- the numbers
-  pub lines : book.tally.lines ≡ length (taken m.acts)
+  pub fresh : AllByRecursion (λ one. number_below book.queue.next_batch one.place ≡ true) book.queue.held
+  pub parked : IfSome book.queue.parked (λ one. one.place ≡ queue_place.Queued)
+  -- the lines
   pub few : book.tally.lines < 2 ^ 32
-  pub lanes : book.tally.lanes ≡ lanes_among (taken m.acts)
-  pub emitted : book.tally.emitted ≡ length (filter_map state_echoed m.acts)
-  pub ended : list_any is_end m.acts ≡ book.tally.is_ended
   pub statuses_many : length book.statuses ≡ length (ids book)
   pub statuses : (number : ℕ) (id : StreamId) → slice_get (ids book) number ≡ Some id → slice_get book.statuses number ≡ Some (last_status id (taken m.acts))
 
@@ -157,3 +155,14 @@ pub record CanTake (book : BookView) : Type 0 where
 abbrev pub IsLaneBelow : ℕ → GateLane → Type 0
 IsLaneBelow streams gate_lane.Global = Unit {0}
 IsLaneBelow streams (gate_lane.Stream stream) = stream < streams
+
+-- What `put` asks of a book that is not broken: its gate has the records of its queue, the states that wait have echoes and can be
+-- counted, and its dock knows the streams of its catalog.
+pub record CanPut (book : BookView) : Type 0 where
+  pub content : Content
+  pub stands : Stands content book.gate
+  pub uncommitted : content.uncommitted ≡ map accepted_of (all_of book.queue)
+  pub kinds : AllByRecursion HasKind content.waiting
+  pub room : book.tally.emitted + length content.waiting < 2 ^ 63
+  pub queue_streams : book.queue.streams ≡ length book.catalog
+  pub as_many : length book.seen.face.side_marks ≡ length book.catalog

@@ -4,5 +4,7 @@ pub mod Releases
 pub mod Accepts
 pub mod Puts
 pub mod Starts
+pub mod Hands
 pub mod Holds
 pub mod Books
+pub mod Laws

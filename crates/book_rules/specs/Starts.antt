@@ -75,6 +75,8 @@ pub record Starts (streams : List ConfStream) (limits : Limits) (before : DockSe
   pub opened : OpenedAs (record { load = book.opening.load; moment = book.opening.moment }) book.opening.plan before.face.moment (dock_events before) (dock_events book.seen)
   pub face : OpensFace book.opening.plan before.face book.seen.face
   pub grew : DockGrew before book.seen
+  pub rows_read : book.seen.rows_read ≡ before.rows_read
+  pub counts : book.seen.counts ≡ record (before.counts) { store_faults = book.seen.counts.store_faults }
   pub catalog : book.catalog ≡ streams
   pub limits_are : book.limits ≡ limits
   pub queue : book.queue ≡ record { held = []; parked = None; streams = length streams; slots = limits.slots; bytes = limits.bytes; batch = limits.batch; next = 0; next_batch = 0 }
@@ -84,9 +86,27 @@ pub record Starts (streams : List ConfStream) (limits : Limits) (before : DockSe
   pub statuses : book.statuses ≡ replicate (length streams) None
   pub shown : book.shown ≡ replicate (length streams) false
 
--- why none was started: at StoreFault the count rose, and a load may have been opened
+-- a start that is refused has read marks, and opened a load at most
+pub record KeepsDock (before now : DockSeen) : Type 0 where
+  pub grew : DockGrew before now
+  pub face : now.face ≡ before.face
+  pub rows_read : now.rows_read ≡ before.rows_read
+  pub counts : now.counts ≡ record (before.counts) { store_faults = now.counts.store_faults }
+
+-- the load of these streams and their marks was opened
+pub record OpenedFor (streams : List ConfStream) (before now : DockSeen) : Type 0 where
+  pub marks : List Marks
+  pub marks_are : AreMarks before (ids_of streams) marks
+  pub plan : List StreamPlan
+  pub plans : ArePlansOf marks streams plan
+  pub added : AddsOpened plan before.face.moment (dock_events before) (dock_events now)
+
+-- why none was started: at StoreFault the count rose, and the load may have been opened
+abbrev pub RefusedFor : Status → List ConfStream → DockSeen → DockSeen → Type 0
+RefusedFor (status.BadCatalog why) streams before now = (marks : List Marks) × AreMarks before (ids_of streams) marks × LacksFirst why marks streams × (dock_events now ≡ dock_events before)
+RefusedFor status.StoreFault streams before now = Rose before.counts.store_faults now.counts.store_faults × ((dock_events now ≡ dock_events before) ⊎ OpenedFor streams before now)
+RefusedFor status.NoMemory streams before now = dock_events now ≡ dock_events before
+RefusedFor _ streams before now = ⊥
+
 abbrev pub RefusedBy : Status → List ConfStream → DockSeen → DockSeen → Type 0
-RefusedBy (status.BadCatalog why) streams before now = (marks : List Marks) × AreMarks before (ids_of streams) marks × LacksFirst why marks streams × (dock_events now ≡ dock_events before)
-RefusedBy status.StoreFault streams before now = Rose before.counts.store_faults now.counts.store_faults × ((dock_events now ≡ dock_events before) ⊎ ((plan : List StreamPlan) × AddsOpened plan before.face.moment (dock_events before) (dock_events now)))
-RefusedBy status.NoMemory streams before now = dock_events now ≡ dock_events before
-RefusedBy _ streams before now = ⊥
+RefusedBy stop streams before now = RefusedFor stop streams before now × KeepsDock before now
