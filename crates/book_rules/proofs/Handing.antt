@@ -1,0 +1,95 @@
+-- The calls of a dock in memory: no event, and no step.
+use Rattle.std.proofs.Common.{◌≡◌, ℕ, List, [], Option, None, Some, Result, Ok, Err, refl, sym, ◌∙◌, ap, subst, length}
+use Rattle.std.specs.Prelude.{IfSome}
+use Rattle.outside.specs.Dock.{DockSeen, TakesFrom, TakesLine, TakesOutput, dock_events, with_hand}
+use Rattle.outside.specs.Hand.{Hand, hand_closed, hand_pushed}
+use Rattle.outside.specs.declared.event.Event.{Event}
+use Rattle.load_rules.specs.Machine.{Machine}
+use Rattle.load_rules.specs.SafeDest.{IsSafeDest}
+use Rattle.load_rules.specs.Bounded.{AreBounded}
+use Rattle.book_rules.specs.Books.{IsBook, IsBookOf, IsNoRun, KeepsSafe, RunsTo, Tells}
+use Rattle.book_rules.specs.Hands.{PushAnswer, TakeOutputAnswer, closed, with_seen}
+use Rattle.book_rules.specs.Laws.{CloseKeeps, HandKeeps, PushKeeps, TakeOutputKeeps}
+use Rattle.book_rules.specs.Views.{BookView}
+use Rattle.book_rules.proofs.Lists.{some_is}
+use Rattle.book_rules.proofs.Safe.{own_is_safe}
+
+reseen_of : (book : BookView) (m : Machine) (seen : DockSeen) → dock_events seen ≡ dock_events book.seen → IsBookOf book m → IsBookOf (with_seen seen book) m
+reseen_of book m seen same is = record {
+  reached = record {
+    steps = is.reached.steps;
+    runs = is.reached.runs;
+    safe = is.reached.safe;
+    bounded = is.reached.bounded;
+    unused = is.reached.unused;
+    unused_are = is.reached.unused_are;
+    used = is.reached.used;
+    told = subst (λ (events : Option (List Event)). IfSome events (Tells book.opening m.acts is.reached.unused)) (sym same) is.reached.told;
+    tallied = is.reached.tallied;
+  };
+  holds = λ none. let h = is.holds none in record {
+    content = h.content;
+    gate = h.gate;
+    uncommitted = h.uncommitted;
+    waiting = h.waiting;
+    as_many = h.as_many;
+    since_own = h.since_own;
+    since_all = h.since_all;
+    gate_streams = h.gate_streams;
+    gate_next = h.gate_next;
+    gate_states = h.gate_states;
+    states = h.states;
+    held = h.held;
+    queue_streams = h.queue_streams;
+    queue_next = h.queue_next;
+    room = h.room;
+    slots = h.slots;
+    bytes = h.bytes;
+    batch = h.batch;
+    fresh = h.fresh;
+    parked = h.parked;
+    few = h.few;
+    statuses_many = h.statuses_many;
+    statuses = h.statuses;
+  };
+  quiet = is.quiet;
+}
+
+seen_keeps : (old : BookView) (seen : DockSeen) → dock_events seen ≡ dock_events old.seen → seen.face.side_marks ≡ old.seen.face.side_marks → IsBook old → HandKeeps old (with_seen seen old)
+seen_keeps old seen same marks is = record {
+  book = book;
+  runs = λ m of. record { steps = []; shaped = tt; leads = reseen_of old m seen same of };
+  own = own_is_safe (with_seen seen old) book;
+  safe = safe;
+}
+  where
+    book : IsBook (with_seen seen old)
+    book = record { configured = is.configured; planned = is.planned; as_many = ap (λ (list : List ℕ). length list) marks ∙ is.as_many; queue_streams = is.queue_streams; machine = is.machine; is = reseen_of old is.machine seen same is.is }
+
+    safe : KeepsSafe old (with_seen seen old)
+    safe read before now first second reads =
+        let now_is : now ≡ before = some_is now before (sym second ∙ (same ∙ first)) in
+        record { safe = λ it. subst (IsSafeDest old.catalog read) (sym now_is) it; bounded = λ it. subst (AreBounded _ read) (sym now_is) it }
+
+hand_keeps_as : (old mid new : BookView) → new ≡ mid → HandKeeps old mid → HandKeeps old new
+hand_keeps_as old mid new same keeps = subst (HandKeeps old) (sym same) keeps
+
+pub push_keeps : PushKeeps
+push_keeps (Ok done) line old new is answer = hand_keeps_as old (with_seen (with_hand (hand_pushed line) old.seen) old) new answer (seen_keeps old (with_hand (hand_pushed line) old.seen) refl refl is)
+push_keeps (Err why) line old new is answer = hand_keeps_as old old new answer (seen_keeps old old.seen refl refl is)
+
+pub close_keeps : CloseKeeps
+close_keeps torn old new is answer = hand_keeps_as old (closed torn old) new answer (seen_keeps old (with_hand (hand_closed torn) old.seen) refl refl is)
+
+record SeenSame (old new : DockSeen) : Type 0 where
+  events : dock_events new ≡ dock_events old
+  marks : new.face.side_marks ≡ old.face.side_marks
+
+taken_same : (hand : Option Hand) (given : Option (List ℕ)) (old new : DockSeen) → TakesFrom hand given old new → SeenSame old new
+taken_same None given old new same = record { events = ap dock_events same; marks = ap (λ (it : DockSeen). it.face.side_marks) same }
+taken_same (Some hand) given old new takes = record { events = ap dock_events takes.seen; marks = ap (λ (it : DockSeen). it.face.side_marks) takes.seen }
+
+pub take_output_keeps : TakeOutputKeeps
+take_output_keeps given old new is answer =
+    let same = taken_same old.seen.face.hand given old.seen new.seen answer.output in
+    hand_keeps_as old (with_seen new.seen old) new answer.rest (seen_keeps old new.seen same.events same.marks is)

@@ -1,0 +1,141 @@
+-- Each call makes a book of a book, by a run of the machine.
+use Rattle.std.proofs.Common.{arith, ◌≡◌, ◌≢◌, ℕ, ◌+◌, ◌<◌, ◌≤◌, ◌^◌, List, [], ◌∷◌, ◌++◌, map, length, Option, None, Some, Bool, true, false, Result, Ok, Err, refl, sym, ◌∙◌, ap, subst, length-append}
+use Rattle.std.specs.Prelude.{option_map}
+use Rattle.std.specs.List.{AllByRecursion}
+use Rattle.basics.specs.declared.stream.StreamId.{StreamId}
+use Rattle.catalog.specs.Configured.{AreConfigured}
+use Rattle.catalog.specs.declared.stream.ConfStream.{ConfStream}
+use Rattle.stream_index.specs.Distinct.{AreDistinct}
+use Rattle.airbyte_message.specs.Lanes.{Lane, lane_of}
+use Rattle.airbyte_message.specs.State.{State}
+use Rattle.airbyte_message.specs.declared.message.StateKind.{StateKind}
+use Rattle.airbyte_message.specs.declared.message.StateKind.TheVariants.{Legacy}
+use Rattle.batch_prep.specs.Items.{Batch}
+use Rattle.batch_prep.specs.declared.item.WorkItem.{WorkItem}
+use Rattle.outside.specs.Dock.{DockMoves, DockSeen, dock_events}
+use Rattle.outside.specs.declared.event.StreamPlan.{StreamPlan}
+use Rattle.load_rules.specs.Acts.{taken}
+use Rattle.load_rules.specs.Engine.{PlansFit}
+use Rattle.load_rules.specs.Lines.{Line, record_in}
+use Rattle.load_rules.specs.Loads.{Opening}
+use Rattle.load_rules.specs.Machine.{Machine, Step, run}
+use Rattle.load_rules.specs.Taken.{LaneState, and_record, entries, entries_from}
+use Rattle.state_gate.specs.declared.pending.Waiting.{Waiting}
+use Rattle.airbyte_message.specs.declared.message.RecordMsg.{RecordMsg}
+use Rattle.book_rules.specs.declared.answer.Accepted.{Accepted}
+use Rattle.book_rules.specs.declared.answer.Put.{Put}
+use Rattle.book_rules.specs.Accepts.{AcceptAnswer}
+use Rattle.book_rules.specs.Books.{IsAcceptRun, IsBook, IsBookOf, IsGiveBackRun, IsPickRun, IsPutRun, IsRecallRun, Runs, RunsTo}
+use Rattle.book_rules.specs.Holds.{AreWaiting, CanPut, CanRelease, HasKind, IsReady, IsWaiting}
+use Rattle.book_rules.specs.Laws.{AcceptKeeps, BooksAreReady, BooksAreSafe, BooksCanPut, GiveBackKeeps, Keeps, PickKeeps, PutKeeps, RecallKeeps}
+use Rattle.book_rules.specs.Puts.{GiveBackAnswer, PickAnswer, PutAnswer, recalled}
+use Rattle.book_rules.specs.Views.{BookView, ids}
+use Rattle.book_rules.proofs.Batching as batching
+use Rattle.book_rules.proofs.Committing as committing
+use Rattle.book_rules.proofs.Lists.{none_some}
+use Rattle.book_rules.proofs.Moving.{Stays, accept_stays, give_back_stays, pick_stays, put_stays, recall_stays}
+use Rattle.book_rules.proofs.Polling as polling
+use Rattle.book_rules.proofs.Safe.{keeps_safe, own_is_safe}
+use Rattle.book_rules.proofs.Whole.{IsWhole, whole_of}
+
+-- what stands for the book stands for the new one
+kept : (shape : List Step → Type 0) (old new : BookView) → IsBook old → Stays old new → Runs shape old new → IsBook new
+kept shape old new is stays runs =
+    let went = runs is.machine is.is in
+    record {
+      configured = subst (λ (streams : List ConfStream). AreConfigured streams) (sym stays.catalog) is.configured;
+      planned = subst (λ (opening : Opening). PlansFit new.catalog opening.plan) (sym stays.opening) (subst (λ (streams : List ConfStream). PlansFit streams old.opening.plan) (sym stays.catalog) is.planned);
+      as_many = ap (λ (marks : List ℕ). length marks) stays.seen.side_marks ∙ (is.as_many ∙ ap (λ (streams : List ConfStream). length streams) (sym stays.catalog));
+      queue_streams = stays.streams ∙ (is.queue_streams ∙ ap (λ (streams : List ConfStream). length streams) (sym stays.catalog));
+      machine = run old.catalog went.steps is.machine;
+      is = went.leads;
+    }
+
+keeps : (shape : List Step → Type 0) (old new : BookView) → IsBook old → Stays old new → Runs shape old new → Keeps shape old new
+keeps shape old new is stays runs =
+    let book = kept shape old new is stays runs in
+    record { book = book; runs = runs; moves = stays.seen.moves; grew = stays.seen.grew; own = own_is_safe new book; safe = keeps_safe old new book stays.catalog stays.limits stays.seen.moves }
+
+pub accept_keeps : AcceptKeeps
+accept_keeps result old new is answer = keeps IsAcceptRun old new is (accept_stays result old new answer) (polling.accept_runs result old new is.configured.distinct answer)
+
+pub pick_keeps : PickKeeps
+pick_keeps result old new is answer = keeps IsPickRun old new is (pick_stays result old new answer) (batching.pick_runs result old new is.configured.distinct answer)
+
+pub put_keeps : PutKeeps
+put_keeps done result old new is answer = keeps IsPutRun old new is (put_stays done result old new answer) (committing.put_runs done result old new is.configured.distinct is.planned answer)
+
+pub give_back_keeps : GiveBackKeeps
+give_back_keeps item result old new is answer = keeps (IsGiveBackRun item.batch) old new is (give_back_stays item result old new answer) (batching.give_back_runs item result old new answer)
+
+pub recall_keeps : RecallKeeps
+recall_keeps old new is answer = keeps IsRecallRun old new is (recall_stays old new answer) (batching.recall_runs old new answer)
+
+pub books_are_safe : BooksAreSafe
+books_are_safe = own_is_safe
+
+-- A book that can take a line
+
+not_legacy : (kind : StateKind) (lane : Lane) → lane_of kind ≡ Some lane → kind ≢ Legacy
+not_legacy kind lane laned is = none_some lane (sym (ap lane_of is) ∙ laned)
+
+kinds_are : (ids_ : List StreamId) (states : List LaneState) (waiting : List Waiting) → AreWaiting ids_ states waiting → AllByRecursion HasKind waiting
+kinds_are ids_ [] [] are = tt
+kinds_are ids_ [] (other ∷ others) are = absurd are
+kinds_are ids_ (state ∷ more) [] are = absurd are
+kinds_are ids_ (state ∷ more) (other ∷ others) are = (λ legacy. not_legacy state.state.kind state.lane are.0.laned (ap (λ (it : State). it.kind) (sym are.0.state_is) ∙ legacy), kinds_are ids_ more others are.1)
+
+fewer_entries : (seq : ℕ) (lines : List Line) → length (entries_from seq lines) ≤ length lines
+fewer_entries seq [] = omega arith
+fewer_entries seq (line ∷ lines) = at (record_in line.found) (fewer_entries seq lines) (fewer_entries (seq + 1) lines)
+  where
+    at : (found : Option RecordMsg) → length (entries_from seq lines) ≤ length lines → length (entries_from (seq + 1) lines) ≤ length lines → length (and_record seq found (λ next. entries_from next lines)) ≤ length (line ∷ lines)
+    at None none some = omega (arith, none)
+    at (Some content) none some = omega (arith, some)
+
+ready : (book : BookView) (m : Machine) → IsWhole book m → IsReady book
+ready book m w = record {
+  releases = record {
+    content = w.holds.content;
+    stands = w.holds.gate;
+    kinds = kinds_are (ids book) m.waiting w.holds.content.waiting w.holds.waiting;
+    room = let a = w.holds.states in let b = w.holds.gate_states in let c = w.holds.few in omega (arith, a, b, c);
+  };
+  gate_streams = w.holds.gate_streams;
+  queue_streams = w.holds.queue_streams;
+  next = w.holds.queue_next ∙ sym w.holds.gate_next;
+  next_few =
+      let a = w.tallied.records in
+      let b = w.tallied.lines in
+      let c = fewer_entries 0 (taken m.acts) in
+      let d = w.holds.few in
+      omega (arith, a, b, c, d);
+  states_few = let b = w.holds.gate_states in let c = w.holds.few in omega (arith, b, c);
+  few = let c = w.holds.few in omega (arith, c);
+  statuses = w.holds.statuses_many;
+}
+
+pub books_are_ready : BooksAreReady
+books_are_ready book is whole = ready book is.machine (whole_of book is.machine whole is.is)
+
+can_put : (book : BookView) (m : Machine) → IsBook book → IsWhole book m → CanPut book
+can_put book m is w = record {
+  content = w.holds.content;
+  stands = w.holds.gate;
+  uncommitted = w.holds.uncommitted;
+  kinds = kinds_are (ids book) m.waiting w.holds.content.waiting w.holds.waiting;
+  room = let a = w.holds.states in let b = w.holds.gate_states in let c = w.holds.few in omega (arith, a, b, c);
+  queue_streams = is.queue_streams;
+  as_many = is.as_many;
+}
+
+pub books_can_put : BooksCanPut
+books_can_put book is whole = can_put book is.machine is (whole_of book is.machine whole is.is)
+
+-- The same, clause by clause, as a book's calls cite them.
+
+pub accepted_book : (result : Accepted) (old new : BookView) → IsBook old → AcceptAnswer result old new → IsBook new
+accepted_book result old new is answer = (accept_keeps result old new is answer).book
+
+pub accept_runs : (result : Accepted) (old new : BookView) → IsBook old → AcceptAnswer result old new → Runs IsAcceptRun old new
+accept_runs result old new is answer = (accept_keeps result old new is answer).runs
