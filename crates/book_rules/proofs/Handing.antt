@@ -1,13 +1,14 @@
 -- The calls of a dock in memory: no event, and no step.
 use Rattle.std.proofs.Common.{◌≡◌, ℕ, List, [], Option, None, Some, Result, Ok, Err, refl, sym, ◌∙◌, ap, subst, length}
 use Rattle.std.specs.Prelude.{IfSome}
+use Rattle.basics.specs.declared.memory.NoMemory.{NoMemory}
 use Rattle.outside.specs.Dock.{DockSeen, TakesFrom, TakesLine, TakesOutput, dock_events, with_hand}
 use Rattle.outside.specs.Hand.{Hand, hand_closed, hand_pushed}
 use Rattle.outside.specs.declared.event.Event.{Event}
 use Rattle.load_rules.specs.Machine.{Machine}
 use Rattle.load_rules.specs.SafeDest.{IsSafeDest}
 use Rattle.load_rules.specs.Bounded.{AreBounded}
-use Rattle.book_rules.specs.Books.{IsBook, IsBookOf, IsNoRun, KeepsSafe, RunsTo, Tells}
+use Rattle.book_rules.specs.Books.{IsBook, IsBookOf, IsNoRun, KeepsSafe, OwnLoadIsSafe, Runs, RunsTo, Tells}
 use Rattle.book_rules.specs.Hands.{PushAnswer, TakeOutputAnswer, closed, with_seen}
 use Rattle.book_rules.specs.Laws.{CloseKeeps, HandKeeps, PushKeeps, TakeOutputKeeps}
 use Rattle.book_rules.specs.Views.{BookView}
@@ -93,3 +94,41 @@ pub take_output_keeps : TakeOutputKeeps
 take_output_keeps given old new is answer =
     let same = taken_same old.seen.face.hand given old.seen new.seen answer.output in
     hand_keeps_as old (with_seen new.seen old) new answer.rest (seen_keeps old new.seen same.events same.marks is)
+
+-- The same, clause by clause, as a book's calls cite them.
+
+pub push_book : (result : Result (Unit {0}) NoMemory) (line : List ℕ) (old new : BookView) → IsBook old → PushAnswer result line old new → IsBook new
+push_book result line old new is answer = (push_keeps result line old new is answer).book
+
+pub push_runs : (result : Result (Unit {0}) NoMemory) (line : List ℕ) (old new : BookView) → IsBook old → PushAnswer result line old new → Runs IsNoRun old new
+push_runs result line old new is answer = (push_keeps result line old new is answer).runs
+
+pub push_own : (result : Result (Unit {0}) NoMemory) (line : List ℕ) (old new : BookView) → IsBook old → PushAnswer result line old new → OwnLoadIsSafe new
+push_own result line old new is answer = (push_keeps result line old new is answer).own
+
+pub push_safe : (result : Result (Unit {0}) NoMemory) (line : List ℕ) (old new : BookView) → IsBook old → PushAnswer result line old new → KeepsSafe old new
+push_safe result line old new is answer = (push_keeps result line old new is answer).safe
+
+pub close_book : (torn : Option (List ℕ)) (old new : BookView) → IsBook old → new ≡ closed torn old → IsBook new
+close_book torn old new is answer = (close_keeps torn old new is answer).book
+
+pub close_runs : (torn : Option (List ℕ)) (old new : BookView) → IsBook old → new ≡ closed torn old → Runs IsNoRun old new
+close_runs torn old new is answer = (close_keeps torn old new is answer).runs
+
+pub close_own : (torn : Option (List ℕ)) (old new : BookView) → IsBook old → new ≡ closed torn old → OwnLoadIsSafe new
+close_own torn old new is answer = (close_keeps torn old new is answer).own
+
+pub close_safe : (torn : Option (List ℕ)) (old new : BookView) → IsBook old → new ≡ closed torn old → KeepsSafe old new
+close_safe torn old new is answer = (close_keeps torn old new is answer).safe
+
+pub take_output_book : (given : Option (List ℕ)) (old new : BookView) → IsBook old → TakeOutputAnswer given old new → IsBook new
+take_output_book given old new is answer = (take_output_keeps given old new is answer).book
+
+pub take_output_runs : (given : Option (List ℕ)) (old new : BookView) → IsBook old → TakeOutputAnswer given old new → Runs IsNoRun old new
+take_output_runs given old new is answer = (take_output_keeps given old new is answer).runs
+
+pub take_output_own : (given : Option (List ℕ)) (old new : BookView) → IsBook old → TakeOutputAnswer given old new → OwnLoadIsSafe new
+take_output_own given old new is answer = (take_output_keeps given old new is answer).own
+
+pub take_output_safe : (given : Option (List ℕ)) (old new : BookView) → IsBook old → TakeOutputAnswer given old new → KeepsSafe old new
+take_output_safe given old new is answer = (take_output_keeps given old new is answer).safe

@@ -2,6 +2,7 @@
 use Rattle.std.proofs.Common.{arith, ◌≡◌, ◌≢◌, ℕ, ◌+◌, ◌<◌, ◌≤◌, ◌^◌, List, [], ◌∷◌, ◌++◌, map, length, Option, None, Some, Bool, true, false, Result, Ok, Err, refl, sym, ◌∙◌, ap, subst, length-append}
 use Rattle.std.specs.Prelude.{option_map}
 use Rattle.std.specs.List.{AllByRecursion}
+use Rattle.basics.specs.declared.memory.NoMemory.{NoMemory}
 use Rattle.basics.specs.declared.stream.StreamId.{StreamId}
 use Rattle.catalog.specs.Configured.{AreConfigured}
 use Rattle.catalog.specs.declared.stream.ConfStream.{ConfStream}
@@ -12,7 +13,7 @@ use Rattle.airbyte_message.specs.declared.message.StateKind.{StateKind}
 use Rattle.airbyte_message.specs.declared.message.StateKind.TheVariants.{Legacy}
 use Rattle.batch_prep.specs.Items.{Batch}
 use Rattle.batch_prep.specs.declared.item.WorkItem.{WorkItem}
-use Rattle.outside.specs.Dock.{DockMoves, DockSeen, dock_events}
+use Rattle.outside.specs.Dock.{DockGrew, DockMoves, DockSeen, dock_events}
 use Rattle.outside.specs.declared.event.StreamPlan.{StreamPlan}
 use Rattle.load_rules.specs.Acts.{taken}
 use Rattle.load_rules.specs.Engine.{PlansFit}
@@ -25,7 +26,7 @@ use Rattle.airbyte_message.specs.declared.message.RecordMsg.{RecordMsg}
 use Rattle.book_rules.specs.declared.answer.Accepted.{Accepted}
 use Rattle.book_rules.specs.declared.answer.Put.{Put}
 use Rattle.book_rules.specs.Accepts.{AcceptAnswer}
-use Rattle.book_rules.specs.Books.{IsAcceptRun, IsBook, IsBookOf, IsGiveBackRun, IsPickRun, IsPutRun, IsRecallRun, Runs, RunsTo}
+use Rattle.book_rules.specs.Books.{IsAcceptRun, IsBook, IsBookOf, IsGiveBackRun, IsPickRun, IsPutRun, IsRecallRun, KeepsSafe, OwnLoadIsSafe, Runs, RunsTo}
 use Rattle.book_rules.specs.Holds.{AreWaiting, CanPut, CanRelease, HasKind, IsReady, IsWaiting}
 use Rattle.book_rules.specs.Laws.{AcceptKeeps, BooksAreReady, BooksAreSafe, BooksCanPut, GiveBackKeeps, Keeps, PickKeeps, PutKeeps, RecallKeeps}
 use Rattle.book_rules.specs.Puts.{GiveBackAnswer, PickAnswer, PutAnswer, recalled}
@@ -134,8 +135,92 @@ books_can_put book is whole = can_put book is.machine is (whole_of book is.machi
 
 -- The same, clause by clause, as a book's calls cite them.
 
-pub accepted_book : (result : Accepted) (old new : BookView) → IsBook old → AcceptAnswer result old new → IsBook new
-accepted_book result old new is answer = (accept_keeps result old new is answer).book
+pub accept_book : (result : Accepted) (old new : BookView) → IsBook old → AcceptAnswer result old new → IsBook new
+accept_book result old new is answer = (accept_keeps result old new is answer).book
 
 pub accept_runs : (result : Accepted) (old new : BookView) → IsBook old → AcceptAnswer result old new → Runs IsAcceptRun old new
 accept_runs result old new is answer = (accept_keeps result old new is answer).runs
+
+pub accept_moves : (result : Accepted) (old new : BookView) → IsBook old → AcceptAnswer result old new → DockMoves old.seen new.seen
+accept_moves result old new is answer = (accept_keeps result old new is answer).moves
+
+pub accept_grew : (result : Accepted) (old new : BookView) → IsBook old → AcceptAnswer result old new → DockGrew old.seen new.seen
+accept_grew result old new is answer = (accept_keeps result old new is answer).grew
+
+pub accept_own : (result : Accepted) (old new : BookView) → IsBook old → AcceptAnswer result old new → OwnLoadIsSafe new
+accept_own result old new is answer = (accept_keeps result old new is answer).own
+
+pub accept_safe : (result : Accepted) (old new : BookView) → IsBook old → AcceptAnswer result old new → KeepsSafe old new
+accept_safe result old new is answer = (accept_keeps result old new is answer).safe
+
+pub pick_book : (result : Result (Option WorkItem) NoMemory) (old new : BookView) → IsBook old → PickAnswer result old new → IsBook new
+pick_book result old new is answer = (pick_keeps result old new is answer).book
+
+pub pick_runs : (result : Result (Option WorkItem) NoMemory) (old new : BookView) → IsBook old → PickAnswer result old new → Runs IsPickRun old new
+pick_runs result old new is answer = (pick_keeps result old new is answer).runs
+
+pub pick_moves : (result : Result (Option WorkItem) NoMemory) (old new : BookView) → IsBook old → PickAnswer result old new → DockMoves old.seen new.seen
+pick_moves result old new is answer = (pick_keeps result old new is answer).moves
+
+pub pick_grew : (result : Result (Option WorkItem) NoMemory) (old new : BookView) → IsBook old → PickAnswer result old new → DockGrew old.seen new.seen
+pick_grew result old new is answer = (pick_keeps result old new is answer).grew
+
+pub pick_own : (result : Result (Option WorkItem) NoMemory) (old new : BookView) → IsBook old → PickAnswer result old new → OwnLoadIsSafe new
+pick_own result old new is answer = (pick_keeps result old new is answer).own
+
+pub pick_safe : (result : Result (Option WorkItem) NoMemory) (old new : BookView) → IsBook old → PickAnswer result old new → KeepsSafe old new
+pick_safe result old new is answer = (pick_keeps result old new is answer).safe
+
+pub put_book : (done : Batch) (result : Put) (old new : BookView) → IsBook old → PutAnswer done result old new → IsBook new
+put_book done result old new is answer = (put_keeps done result old new is answer).book
+
+pub put_runs : (done : Batch) (result : Put) (old new : BookView) → IsBook old → PutAnswer done result old new → Runs IsPutRun old new
+put_runs done result old new is answer = (put_keeps done result old new is answer).runs
+
+pub put_moves : (done : Batch) (result : Put) (old new : BookView) → IsBook old → PutAnswer done result old new → DockMoves old.seen new.seen
+put_moves done result old new is answer = (put_keeps done result old new is answer).moves
+
+pub put_grew : (done : Batch) (result : Put) (old new : BookView) → IsBook old → PutAnswer done result old new → DockGrew old.seen new.seen
+put_grew done result old new is answer = (put_keeps done result old new is answer).grew
+
+pub put_own : (done : Batch) (result : Put) (old new : BookView) → IsBook old → PutAnswer done result old new → OwnLoadIsSafe new
+put_own done result old new is answer = (put_keeps done result old new is answer).own
+
+pub put_safe : (done : Batch) (result : Put) (old new : BookView) → IsBook old → PutAnswer done result old new → KeepsSafe old new
+put_safe done result old new is answer = (put_keeps done result old new is answer).safe
+
+pub give_back_book : (item : WorkItem) (result : Option WorkItem) (old new : BookView) → IsBook old → GiveBackAnswer item result old new → IsBook new
+give_back_book item result old new is answer = (give_back_keeps item result old new is answer).book
+
+pub give_back_runs : (item : WorkItem) (result : Option WorkItem) (old new : BookView) → IsBook old → GiveBackAnswer item result old new → Runs (IsGiveBackRun item.batch) old new
+give_back_runs item result old new is answer = (give_back_keeps item result old new is answer).runs
+
+pub give_back_moves : (item : WorkItem) (result : Option WorkItem) (old new : BookView) → IsBook old → GiveBackAnswer item result old new → DockMoves old.seen new.seen
+give_back_moves item result old new is answer = (give_back_keeps item result old new is answer).moves
+
+pub give_back_grew : (item : WorkItem) (result : Option WorkItem) (old new : BookView) → IsBook old → GiveBackAnswer item result old new → DockGrew old.seen new.seen
+give_back_grew item result old new is answer = (give_back_keeps item result old new is answer).grew
+
+pub give_back_own : (item : WorkItem) (result : Option WorkItem) (old new : BookView) → IsBook old → GiveBackAnswer item result old new → OwnLoadIsSafe new
+give_back_own item result old new is answer = (give_back_keeps item result old new is answer).own
+
+pub give_back_safe : (item : WorkItem) (result : Option WorkItem) (old new : BookView) → IsBook old → GiveBackAnswer item result old new → KeepsSafe old new
+give_back_safe item result old new is answer = (give_back_keeps item result old new is answer).safe
+
+pub recall_book : (old new : BookView) → IsBook old → new ≡ recalled old → IsBook new
+recall_book old new is answer = (recall_keeps old new is answer).book
+
+pub recall_runs : (old new : BookView) → IsBook old → new ≡ recalled old → Runs IsRecallRun old new
+recall_runs old new is answer = (recall_keeps old new is answer).runs
+
+pub recall_moves : (old new : BookView) → IsBook old → new ≡ recalled old → DockMoves old.seen new.seen
+recall_moves old new is answer = (recall_keeps old new is answer).moves
+
+pub recall_grew : (old new : BookView) → IsBook old → new ≡ recalled old → DockGrew old.seen new.seen
+recall_grew old new is answer = (recall_keeps old new is answer).grew
+
+pub recall_own : (old new : BookView) → IsBook old → new ≡ recalled old → OwnLoadIsSafe new
+recall_own old new is answer = (recall_keeps old new is answer).own
+
+pub recall_safe : (old new : BookView) → IsBook old → new ≡ recalled old → KeepsSafe old new
+recall_safe old new is answer = (recall_keeps old new is answer).safe

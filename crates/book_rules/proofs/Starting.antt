@@ -178,3 +178,11 @@ refused_for _ streams most before now r = absurd r
 
 pub refused_keeps : RefusedKeeps
 refused_keeps stop streams most before now r = refused_for stop streams most before now r.0
+
+-- The same, clause by clause, as a start cites them.
+
+pub started_book : (streams : List ConfStream) (limits : Limits) (before : DockSeen) (book : BookView) → AreConfigured streams → Starts streams limits before book → IsBook book
+started_book streams limits before book configured s = (starts_begin streams limits before book configured s).book
+
+pub started_safe : (streams : List ConfStream) (limits : Limits) (before : DockSeen) (book : BookView) → AreConfigured streams → Starts streams limits before book → KeepsSafeOf book.catalog (book.limits.slots + 1) before book.seen
+started_safe streams limits before book configured s = (starts_begin streams limits before book configured s).safe
