@@ -65,7 +65,7 @@ seen_keeps old seen same marks is = record {
 }
   where
     book : IsBook (with_seen seen old)
-    book = record { configured = is.configured; planned = is.planned; as_many = ap (λ (list : List ℕ). length list) marks ∙ is.as_many; queue_streams = is.queue_streams; machine = is.machine; is = reseen_of old is.machine seen same is.is }
+    book = record { configured = is.configured; planned = is.planned; as_many = ap (λ (list : List ℕ). length list) marks ∙ is.as_many; queue_streams = is.queue_streams; limits_are = is.limits_are; slots = is.slots; bytes = is.bytes; batch = is.batch; parked_small = is.parked_small; machine = is.machine; is = reseen_of old is.machine seen same is.is }
 
     safe : KeepsSafe old (with_seen seen old)
     safe read before now first second reads =

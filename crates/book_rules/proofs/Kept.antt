@@ -14,6 +14,8 @@ use Rattle.airbyte_message.specs.declared.message.StateKind.TheVariants.{Legacy}
 use Rattle.batch_prep.specs.Items.{Batch}
 use Rattle.batch_prep.specs.declared.item.WorkItem.{WorkItem}
 use Rattle.outside.specs.Dock.{DockGrew, DockMoves, DockSeen, dock_events}
+use Rattle.outside.specs.Limits.{AreLimits}
+use Rattle.outside.specs.declared.load.Limits.{Limits}
 use Rattle.outside.specs.declared.event.StreamPlan.{StreamPlan}
 use Rattle.load_rules.specs.Acts.{taken}
 use Rattle.load_rules.specs.Engine.{PlansFit}
@@ -47,7 +49,12 @@ kept shape old new is stays runs =
       configured = subst (λ (streams : List ConfStream). AreConfigured streams) (sym stays.catalog) is.configured;
       planned = subst (λ (opening : Opening). PlansFit new.catalog opening.plan) (sym stays.opening) (subst (λ (streams : List ConfStream). PlansFit streams old.opening.plan) (sym stays.catalog) is.planned);
       as_many = ap (λ (marks : List ℕ). length marks) stays.seen.side_marks ∙ (is.as_many ∙ ap (λ (streams : List ConfStream). length streams) (sym stays.catalog));
-      queue_streams = stays.streams ∙ (is.queue_streams ∙ ap (λ (streams : List ConfStream). length streams) (sym stays.catalog));
+      queue_streams = stays.queue.streams ∙ (is.queue_streams ∙ ap (λ (streams : List ConfStream). length streams) (sym stays.catalog));
+      limits_are = subst AreLimits (sym stays.limits) is.limits_are;
+      slots = stays.queue.slots ∙ (is.slots ∙ ap (λ (it : Limits). it.slots) (sym stays.limits));
+      bytes = stays.queue.bytes ∙ (is.bytes ∙ ap (λ (it : Limits). it.bytes) (sym stays.limits));
+      batch = stays.queue.batch ∙ (is.batch ∙ ap (λ (it : Limits). it.batch) (sym stays.limits));
+      parked_small = stays.queue.small is.parked_small;
       machine = run old.catalog went.steps is.machine;
       is = went.leads;
     }

@@ -12,6 +12,7 @@ use Rattle.catalog.specs.Reading.{ids_of}
 use Rattle.catalog.specs.declared.stream.ConfStream.{ConfStream}
 use Rattle.airbyte_message.specs.declared.stream_status.StreamStatus.{StreamStatus}
 use Rattle.outside.specs.Dock.{AddsOpened, DockSeen, OpenedAs, dock_events, opening as opening_event, took_over_after}
+use Rattle.outside.specs.Limits.{AreLimits}
 use Rattle.outside.specs.Tables.{tables_of}
 use Rattle.outside.specs.declared.event.Event.{Event}
 use Rattle.outside.specs.declared.event.Event.TheVariants.{Opened}
@@ -129,8 +130,8 @@ fresh_whole streams limits seen opening gate stands streams_is next states told 
   whole = refl;
 }
 
-fresh_is_book : (streams : List ConfStream) (limits : Limits) (seen : DockSeen) (opening : Opening) (gate : GateView) → AreConfigured streams → PlansFit streams opening.plan → length seen.face.side_marks ≡ length streams → IsWhole (fresh_book streams limits seen opening gate) start → IsBook (fresh_book streams limits seen opening gate)
-fresh_is_book streams limits seen opening gate configured planned as_many w = record { configured = configured; planned = planned; as_many = as_many; queue_streams = refl; machine = start; is = book_of_whole (fresh_book streams limits seen opening gate) start w refl }
+fresh_is_book : (streams : List ConfStream) (limits : Limits) (seen : DockSeen) (opening : Opening) (gate : GateView) → AreConfigured streams → AreLimits limits → PlansFit streams opening.plan → length seen.face.side_marks ≡ length streams → IsWhole (fresh_book streams limits seen opening gate) start → IsBook (fresh_book streams limits seen opening gate)
+fresh_is_book streams limits seen opening gate configured limits_are planned as_many w = record { configured = configured; planned = planned; as_many = as_many; queue_streams = refl; limits_are = limits_are; slots = refl; bytes = refl; batch = refl; parked_small = tt; machine = start; is = book_of_whole (fresh_book streams limits seen opening gate) start w refl }
 
 -- An opening keeps a trace safe and bounded
 
@@ -153,7 +154,7 @@ nothing_opened streams most before now same read old new first second reads =
     record { safe = λ safe. subst (IsSafeDest streams read) (sym is) safe; bounded = λ each. subst (AreBounded most read) (sym is) each }
 
 pub starts_begin : StartsBegin
-starts_begin streams limits before book configured s =
+starts_begin streams limits before book configured limits_are s =
     let fits = plans_fit s.marks streams book.opening.plan s.plans in
     let long = plans_long streams book.opening.plan fits in
     let gate_streams : book.gate.streams ≡ length streams = ap (λ (it : GateView). it.streams) s.gate_is in
@@ -161,7 +162,7 @@ starts_begin streams limits before book configured s =
     let gate_states : book.gate.states ≡ 0 = ap (λ (it : GateView). it.states) s.gate_is in
     let told = told_opened book.opening before.face.moment (dock_events before) (dock_events book.seen) s.opened in
     let w = fresh_whole streams limits book.seen book.opening book.gate s.gate gate_streams gate_next gate_states told in
-    let fresh = fresh_is_book streams limits book.seen book.opening book.gate configured fits (s.face.streams.one_each ∙ long) w in
+    let fresh = fresh_is_book streams limits book.seen book.opening book.gate configured limits_are fits (s.face.streams.one_each ∙ long) w in
     let same : book ≡ fresh_book streams limits book.seen book.opening book.gate = λ i. record { seen = book.seen; catalog = s.catalog i; opening = book.opening; gate = book.gate; queue = s.queue i; tally = s.tally i; statuses = s.statuses i; shown = s.shown i; limits = s.limits_are i } in
     let is : IsBook book = subst (λ (it : BookView). IsBook it) (sym same) fresh in
     record { book = is; own = own_is_safe book is; safe = opening_stays book.catalog (book.limits.slots + 1) book.opening.moment book.opening.plan before book.seen s.opened.added }
@@ -181,8 +182,8 @@ refused_keeps stop streams most before now r = refused_for stop streams most bef
 
 -- The same, clause by clause, as a start cites them.
 
-pub started_book : (streams : List ConfStream) (limits : Limits) (before : DockSeen) (book : BookView) → AreConfigured streams → Starts streams limits before book → IsBook book
-started_book streams limits before book configured s = (starts_begin streams limits before book configured s).book
+pub started_book : (streams : List ConfStream) (limits : Limits) (before : DockSeen) (book : BookView) → AreConfigured streams → AreLimits limits → Starts streams limits before book → IsBook book
+started_book streams limits before book configured limits_are s = (starts_begin streams limits before book configured limits_are s).book
 
-pub started_safe : (streams : List ConfStream) (limits : Limits) (before : DockSeen) (book : BookView) → AreConfigured streams → Starts streams limits before book → KeepsSafeOf book.catalog (book.limits.slots + 1) before book.seen
-started_safe streams limits before book configured s = (starts_begin streams limits before book configured s).safe
+pub started_safe : (streams : List ConfStream) (limits : Limits) (before : DockSeen) (book : BookView) → AreConfigured streams → AreLimits limits → Starts streams limits before book → KeepsSafeOf book.catalog (book.limits.slots + 1) before book.seen
+started_safe streams limits before book configured limits_are s = (starts_begin streams limits before book configured limits_are s).safe

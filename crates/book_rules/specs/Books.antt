@@ -2,11 +2,14 @@
 use Rattle.std.specs.Prelude.{◌≡◌, ◌⊎◌, ℕ, ◌+◌, ◌≤◌, ◌^◌, List, [], ◌∷◌, ◌++◌, map, filter_map, length, Option, None, Some, IfSome, find}
 use Rattle.std.specs.List.{AllByRecursion, list_any}
 use Rattle.outside.specs.Dock.{DockSeen, dock_events, took_over}
+use Rattle.outside.specs.Limits.{AreLimits}
 use Rattle.outside.specs.declared.event.Event.{Event}
 use Rattle.outside.specs.declared.status.Status.{Status}
 use Rattle.outside.specs.declared.status.Status.TheVariants as status
+use Rattle.basics.specs.declared.limits.TheConstants.{LONGEST_LINE}
 use Rattle.catalog.specs.Configured.{AreConfigured}
 use Rattle.catalog.specs.declared.stream.ConfStream.{ConfStream}
+use Rattle.book_queue.specs.Content.{Held}
 use Rattle.load_rules.specs.Acts.{Act, Takes, AreActs, taken, state_echoed}
 use Rattle.load_rules.specs.Bounded.{AreBounded, IsBounded}
 use Rattle.load_rules.specs.Engine.{PlansFit}
@@ -79,11 +82,20 @@ pub record IsBookOf (book : BookView) (m : Machine) : Type 0 where
   pub holds : book.tally.broken ≡ None → Holds book m
   pub quiet : book.tally.broken ≡ None → IsQuiet m
 
+-- a record that waits for room is no longer than a line may be
+abbrev pub IsSmall : Option Held → Type 0
+IsSmall parked = IfSome parked (λ one. length one.line ≤ LONGEST_LINE)
+
 pub record IsBook (book : BookView) : Type 0 where
   pub configured : AreConfigured book.catalog
   pub planned : PlansFit book.catalog book.opening.plan
   pub as_many : length book.seen.face.side_marks ≡ length book.catalog
   pub queue_streams : book.queue.streams ≡ length book.catalog
+  pub limits_are : AreLimits book.limits
+  pub slots : book.queue.slots ≡ book.limits.slots
+  pub bytes : book.queue.bytes ≡ book.limits.bytes
+  pub batch : book.queue.batch ≡ book.limits.batch
+  pub parked_small : IsSmall book.queue.parked
   pub machine : Machine
   pub is : IsBookOf book machine
 
