@@ -1,0 +1,6 @@
+//! The configuration of a destination.
+#![tactic(auto)]
+
+mod config;
+
+pub use config::{DestConfig, DestKind, read_dest_config};
