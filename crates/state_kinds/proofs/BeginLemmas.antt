@@ -207,13 +207,13 @@ or_false : (a b : Bool) → (a || b) ≡ false → (a ≡ false) × (b ≡ false
 or_false true b e = absurd (let h : true ≡ false = e in cc)
 or_false false b e = (refl, e)
 
-renewed_stateless : (given : Given) (entries : List SavedEntry) → has_states entries ≡ false → has_states (map (renewed given) entries) ≡ false
+pub renewed_stateless : (given : Given) (entries : List SavedEntry) → has_states entries ≡ false → has_states (map (renewed given) entries) ≡ false
 renewed_stateless given [] none = refl
 renewed_stateless given (entry ∷ entries) none =
     let o = or_false (is_some entry.state) (has_states entries) none in
     ap (λ (b : Bool). b || has_states (map (renewed given) entries)) (renewed_none entry (generation_of given entry.id) o.0) ∙ renewed_stateless given entries o.1
 
-new_stateless : (pairs : Given) → has_states (map new_entry pairs) ≡ false
+pub new_stateless : (pairs : Given) → has_states (map new_entry pairs) ≡ false
 new_stateless [] = refl
 new_stateless (pair ∷ pairs) = new_stateless pairs
 
@@ -223,11 +223,11 @@ renewed_id entry (Some generation) = by_cases (entry.generation == generation)
     (λ e. ap (λ (b : Bool). (cond b entry (record entry { generation = generation; state = None })).id) e)
     (λ e. ap (λ (b : Bool). (cond b entry (record entry { generation = generation; state = None })).id) e)
 
-renewed_ids : (given : Given) (entries : List SavedEntry) → entry_ids (map (renewed given) entries) ≡ entry_ids entries
+pub renewed_ids : (given : Given) (entries : List SavedEntry) → entry_ids (map (renewed given) entries) ≡ entry_ids entries
 renewed_ids given [] = refl
 renewed_ids given (entry ∷ entries) = ap (λ (i : StreamId). i ∷ entry_ids (map (renewed given) entries)) (renewed_id entry (generation_of given entry.id)) ∙ ap (λ (is : List StreamId). entry.id ∷ is) (renewed_ids given entries)
 
-ids_append : (xs ys : List SavedEntry) → entry_ids (xs ++ ys) ≡ entry_ids xs ++ entry_ids ys
+pub ids_append : (xs ys : List SavedEntry) → entry_ids (xs ++ ys) ≡ entry_ids xs ++ entry_ids ys
 ids_append [] ys = refl
 ids_append (x ∷ xs) ys = ap (λ (is : List StreamId). x.id ∷ is) (ids_append xs ys)
 
@@ -242,7 +242,7 @@ begun_entries given old grown next count index long ids grew renews =
     drop_seam [] ys = refl
     drop_seam (x ∷ xs) ys = drop_seam xs ys
 
-global_kept : (b : Bool) (global : Option (List ℕ)) → is_some (cond b None global) ≡ true → is_some global ≡ true
+pub global_kept : (b : Bool) (global : Option (List ℕ)) → is_some (cond b None global) ≡ true → is_some global ≡ true
 global_kept true global e = absurd (let h : false ≡ true = e in cc)
 global_kept false global e = e
 

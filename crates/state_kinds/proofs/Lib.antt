@@ -9,3 +9,4 @@ pub mod OneLineLemmas
 pub mod StateListLemmas
 pub mod ReadLemmas
 pub mod BackLemmas
+pub mod StayLemmas

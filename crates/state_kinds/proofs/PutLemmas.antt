@@ -49,7 +49,7 @@ stream_unknown set_is index b id object k none absent =
     ap (λ (c : Bool). cond c (Err fault.Mixed) (cond (has_stream (entry_ids entries) id) known (Err fault.Unknown))) none
     ∙ ap (λ (c : Bool). cond c known (Err fault.Unknown)) (same_absent (entry_ids entries) id (λ place there. absent place (ap (λ (i : List StreamId). slice_get i place) k.ids ∙ there)))
 
-stated_ids : (id : StreamId) (object : List ℕ) (entries : List SavedEntry) → entry_ids (map (with_state id object) entries) ≡ entry_ids entries
+pub stated_ids : (id : StreamId) (object : List ℕ) (entries : List SavedEntry) → entry_ids (map (with_state id object) entries) ≡ entry_ids entries
 stated_ids id object [] = refl
 stated_ids id object (entry ∷ entries) =
     ap (λ (i : StreamId). i ∷ entry_ids (map (with_state id object) entries)) (by_cases (is_same_stream id entry.id) (λ e. ap (λ (b : Bool). (cond b (stated entry object) entry).id) e) (λ e. ap (λ (b : Bool). (cond b (stated entry object) entry).id) e))

@@ -15,7 +15,7 @@ mod stored;
 mod write;
 
 pub use entry::SavedEntry;
-pub use laws::sets_read_back;
+pub use laws::{sets_read_back, sets_stay_writable};
 pub use read::read_store;
 pub use set::SavedSet;
 pub use states::{StateList, read_list};

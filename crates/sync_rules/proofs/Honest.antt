@@ -74,7 +74,7 @@ gets_is : (read : Reading) (sync : Sync) (text : List ℕ) (now : Sync) (own : O
 gets_is read sync text now None gets = absurd gets
 gets_is read sync text now (Some attempt) gets = attempt_of gets.1.is
 
-knows_step : (streams : List ConfStream) (read : Reading) (P : LaneState → Type 0) (before : List Event) (sync : Sync) (event : Event) (now : Sync) → Knows sync before → Step streams read P sync event now → Knows now (before ++ event ∷ [])
+pub knows_step : (streams : List ConfStream) (read : Reading) (P : LaneState → Type 0) (before : List Event) (sync : Sync) (event : Event) (now : Sync) → Knows sync before → Step streams read P sync event now → Knows now (before ++ event ∷ [])
 knows_step streams read P before sync (Opened x y z) now knows step = other_next before (Opened x y z) sync now refl (λ list. refl) step knows
 knows_step streams read P before sync (Took x) now knows step = other_next before (Took x) sync now refl (λ list. refl) step knows
 knows_step streams read P before sync TookEnd now knows step = other_next before TookEnd sync now refl (λ list. refl) step knows
@@ -200,16 +200,16 @@ takes_whole read own whole back taken is takes =
 none_some : {A : Type 0} {x : A} → None ≡ Some x → ⊥
 none_some e = false≢true (ap is_some e)
 
-abbrev Honored : List ConfStream → List Event → Option LaneState → Type 0
+abbrev pub Honored : List ConfStream → List Event → Option LaneState → Type 0
 Honored streams before owed = (state : LaneState) → owed ≡ Some state → IsCovered streams before state
 
-honored_more : (streams : List ConfStream) (before : List Event) (event : Event) (sync now : Sync) → GoesOn event → now.owed ≡ sync.owed → Honored streams before sync.owed → Honored streams (before ++ event ∷ []) now.owed
+pub honored_more : (streams : List ConfStream) (before : List Event) (event : Event) (sync now : Sync) → GoesOn event → now.owed ≡ sync.owed → Honored streams before sync.owed → Honored streams (before ++ event ∷ []) now.owed
 honored_more streams before event sync now on same honored state is = covered_more streams before event state on (honored state (sym same ∙ is))
 
-nothing_owed : (streams : List ConfStream) (before : List Event) (now : Sync) → now.owed ≡ None → Honored streams before now.owed
+pub nothing_owed : (streams : List ConfStream) (before : List Event) (now : Sync) → now.owed ≡ None → Honored streams before now.owed
 nothing_owed streams before now none state is = absurd (none_some (sym none ∙ is))
 
-owed_of : {x y : Sync} → x ≡ y → x.owed ≡ y.owed
+pub owed_of : {x y : Sync} → x ≡ y → x.owed ≡ y.owed
 owed_of e = ap (λ (it : Sync). it.owed) e
 
 got_honored : (streams : List ConfStream) (read : Reading) (before : List Event) (text : List ℕ) (own : Running) (list : List Attempt) (owed : Option LaneState) → KnowsAttempt (Some own) list → Takes read own.events text owed
@@ -223,19 +223,19 @@ got_honored streams read before text own (attempt ∷ older) (Some taken) knows 
 
 -- ---- each step
 
-saves_safe : (streams : List ConfStream) (read : Reading) (before : List Event) (sync : Sync) (text : List ℕ) (now : Sync) → Honored streams before sync.owed → Saves streams read (IsAsked streams nothing before) sync text now → Saves streams read (IsCovered streams before) sync text now
+pub saves_safe : (streams : List ConfStream) (read : Reading) (before : List Event) (sync : Sync) (text : List ℕ) (now : Sync) → Honored streams before sync.owed → Saves streams read (IsAsked streams nothing before) sync text now → Saves streams read (IsCovered streams before) sync text now
 saves_safe streams read before sync text now honored saves = record { set = saves.set; text_is = saves.text_is; by = by saves.by; is = saves.is }
   where
     by : ((gens : List Gen) × Begins streams sync.set gens saves.set) ⊎ Puts streams read (IsAsked streams nothing before) sync saves.set → ((gens : List Gen) × Begins streams sync.set gens saves.set) ⊎ Puts streams read (IsCovered streams before) sync saves.set
     by (inl begins) = inl begins
     by (inr puts) = inr (record { attempt = puts.attempt; in_attempt = puts.in_attempt; state = puts.state; owed = puts.owed; passed_on = puts.passed_on; kept = puts.kept; put = puts.put; beside = honored puts.state puts.owed })
 
-got_next : (streams : List ConfStream) (read : Reading) (before : List Event) (text : List ℕ) (sync now : Sync) (own : Option Running) → KnowsAttempt own (attempts before) → InAttempt own (Gets read sync text now) → AddedFits streams read before (Got text) → Honored streams (before ++ Got text ∷ []) now.owed
+pub got_next : (streams : List ConfStream) (read : Reading) (before : List Event) (text : List ℕ) (sync now : Sync) (own : Option Running) → KnowsAttempt own (attempts before) → InAttempt own (Gets read sync text now) → AddedFits streams read before (Got text) → Honored streams (before ++ Got text ∷ []) now.owed
 got_next streams read before text sync now None knows gets fits state is = absurd gets
 got_next streams read before text sync now (Some own) knows gets fits state is =
     covered_more streams before (Got text) state (λ list. refl) (got_honored streams read before text own (attempts before) gets.1.owed knows gets.1.takes fits state (sym (owed_of gets.1.is) ∙ is))
 
-honored_step : (streams : List ConfStream) (read : Reading) (before : List Event) (sync : Sync) (event : Event) (now : Sync) → Knows sync before → Honored streams before sync.owed → AddedFits streams read before event → Step streams read (IsAsked streams nothing before) sync event now → Honored streams (before ++ event ∷ []) now.owed
+pub honored_step : (streams : List ConfStream) (read : Reading) (before : List Event) (sync : Sync) (event : Event) (now : Sync) → Knows sync before → Honored streams before sync.owed → AddedFits streams read before event → Step streams read (IsAsked streams nothing before) sync event now → Honored streams (before ++ event ∷ []) now.owed
 honored_step streams read before sync (Opened x y z) now knows honored fits step = honored_more streams before (Opened x y z) sync now (λ list. refl) (owed_of step) honored
 honored_step streams read before sync (Took x) now knows honored fits step = honored_more streams before (Took x) sync now (λ list. refl) (owed_of step) honored
 honored_step streams read before sync TookEnd now knows honored fits step = honored_more streams before TookEnd sync now (λ list. refl) (owed_of step) honored
@@ -253,7 +253,7 @@ honored_step streams read before sync GotEnd now knows honored fits step = honor
 honored_step streams read before sync (Saved x) now knows honored fits step = nothing_owed streams (before ++ (Saved x) ∷ []) now (owed_of step.is)
 honored_step streams read before sync (Ended x) now knows honored fits step = honored_more streams before (Ended x) sync now (λ list. refl) (owed_of step.1) honored
 
-step_safe : (streams : List ConfStream) (read : Reading) (before : List Event) (sync : Sync) (event : Event) (now : Sync) → Honored streams before sync.owed → Step streams read (IsAsked streams nothing before) sync event now → Step streams read (IsAsked streams commits before) sync event now
+pub step_safe : (streams : List ConfStream) (read : Reading) (before : List Event) (sync : Sync) (event : Event) (now : Sync) → Honored streams before sync.owed → Step streams read (IsAsked streams nothing before) sync event now → Step streams read (IsAsked streams commits before) sync event now
 step_safe streams read before sync (Opened x y z) now honored step = step
 step_safe streams read before sync (Took x) now honored step = step
 step_safe streams read before sync TookEnd now honored step = step

@@ -6,3 +6,8 @@ pub mod Giving
 pub mod KindLemmas
 pub mod Takings
 pub mod StoreLemmas
+pub mod CallLemmas
+pub mod HonestCalls
+pub mod Owed
+pub mod Backs
+pub mod Taking

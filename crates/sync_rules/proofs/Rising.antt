@@ -40,11 +40,11 @@ first_one got (x ∷ over) [] first second rest left is apart others same so = a
 first_one got (x ∷ over) (y ∷ other) first second rest left is apart others same so = first_one got over other first second rest left (tails is) apart.1 others.1 same so
 
 -- none of them is the same, yet one is
-none_first : (got : State) (over : List LaneState) (first : LaneState) (rest : List LaneState) → AllByRecursion (λ it. ¬ Same it.state got) (over ++ first ∷ rest) → Same first.state got → ⊥
+pub none_first : (got : State) (over : List LaneState) (first : LaneState) (rest : List LaneState) → AllByRecursion (λ it. ¬ Same it.state got) (over ++ first ∷ rest) → Same first.state got → ⊥
 none_first got [] first rest apart same = apart.0 same
 none_first got (x ∷ over) first rest apart same = none_first got over first rest apart.1 same
 
-takes_one : (waiting : List LaneState) (got : State) (first second : LaneState) (rest left : List LaneState) → TakesFirst waiting got first rest → TakesFirst waiting got second left → (first ≡ second) × (rest ≡ left)
+pub takes_one : (waiting : List LaneState) (got : State) (first second : LaneState) (rest left : List LaneState) → TakesFirst waiting got first rest → TakesFirst waiting got second left → (first ≡ second) × (rest ≡ left)
 takes_one waiting got first second rest left takes other = first_one got takes.over other.over first second rest left (sym takes.splits ∙ other.splits) takes.others other.others takes.same other.same
 
 state_leaves_one : (waiting : List LaneState) (got : State) (left other : List LaneState) → StateLeaves waiting got left → StateLeaves waiting got other → left ≡ other

@@ -359,19 +359,20 @@ begun_ids given set =
 begun_has : (given : GivenGens) (set : Set) (id : StreamId) → has_stream (entry_ids set.entries) id ≡ true → has_stream (entry_ids (begun given set).entries) id ≡ true
 begun_has given set id has = subst (λ ids. has_stream ids id ≡ true) (sym (begun_ids given set)) (any_front (is_same_stream id) (entry_ids set.entries) (entry_ids (added given (entry_ids set.entries))) has)
 
-record OneGen (set : Set) (stream : ConfStream) (streams : List ConfStream) (gens : List Gen) : Type 0 where
-  gen : Gen
-  rest : List Gen
-  is : gens ≡ gen ∷ rest
-  rest_are : gens_of set streams ≡ Some rest
+pub record OneGen (set : Set) (stream : ConfStream) (streams : List ConfStream) (gens : List Gen) : Type 0 where
+  pub gen : Gen
+  pub rest : List Gen
+  pub is : gens ≡ gen ∷ rest
+  pub gen_is : gen_of set stream ≡ Some gen
+  pub rest_are : gens_of set streams ≡ Some rest
 
-one_gen : (set : Set) (stream : ConfStream) (streams : List ConfStream) (gens : List Gen) → gens_of set (stream ∷ streams) ≡ Some gens → OneGen set stream streams gens
-one_gen set stream streams gens are = at (gen_of set stream) (gens_of set streams) refl are
+pub one_gen : (set : Set) (stream : ConfStream) (streams : List ConfStream) (gens : List Gen) → gens_of set (stream ∷ streams) ≡ Some gens → OneGen set stream streams gens
+one_gen set stream streams gens are = at (gen_of set stream) (gens_of set streams) refl refl are
   where
-    at : (first : Option Gen) (others : Option (List Gen)) → gens_of set streams ≡ others → and_gen first others ≡ Some gens → OneGen set stream streams gens
-    at None others same one_is = absurd (some_none (sym one_is))
-    at (Some gen) None same one_is = absurd (some_none (sym one_is))
-    at (Some gen) (Some rest) same one_is = record { gen = gen; rest = rest; is = sym (some_is one_is); rest_are = same }
+    at : (first : Option Gen) (others : Option (List Gen)) → gen_of set stream ≡ first → gens_of set streams ≡ others → and_gen first others ≡ Some gens → OneGen set stream streams gens
+    at None others own same one_is = absurd (some_none (sym one_is))
+    at (Some gen) None own same one_is = absurd (some_none (sym one_is))
+    at (Some gen) (Some rest) own same one_is = record { gen = gen; rest = rest; is = sym (some_is one_is); gen_is = own; rest_are = same }
 
 abbrev AddedIds : List ConfStream → List Gen → List StreamId → List StreamId
 AddedIds streams gens old = entry_ids (added (given_of streams gens) old)

@@ -1,29 +1,41 @@
 -- The worked standings.
 use Rattle.std.proofs.Common.{arith, ◌≡◌, ◌⊎◌, inl, inr, ◌<◌, ℕ, zero, suc, List, [], ◌∷◌, ◌++◌, Bool, true, false, Option, None, Some, refl, sym, ◌∙◌, ap, subst}
-use Rattle.std.specs.Prelude.{Result, Ok, Err, is_some, fold}
+use Rattle.std.specs.Prelude.{Result, Ok, Err, is_some, fold, codes, ◌≤◌, ◌^◌}
 use Rattle.std.specs.Str.{bytes_eq}
 use Rattle.std.proofs.lemmas.Bool.{false≢true}
 use Rattle.outside.specs.declared.event.AttemptPlan.{AttemptPlan}
+use Rattle.outside.specs.declared.event.Event.{Event}
 use Rattle.outside.specs.declared.event.Event.TheVariants as event
+use Rattle.outside.specs.declared.event.RawRow.{RawRow}
+use Rattle.json.specs.Print.{escape_byte}
+use Rattle.std.specs.Fmt.{digits}
+use Rattle.json.proofs.Printed.Utf8.{IsUtf8-are_ascii}
+use Rattle.json_span.specs.Grammar as json
+use Rattle.json_span.specs.Members.{AreMembers}
+use Rattle.json_fields.specs.Fields.{line_depth}
+use Rattle.catalog.specs.Written.{IsCatalogText}
+use Rattle.load_rules.specs.Rows.{IsRowOf}
 use Rattle.outside.specs.declared.event.Exit.{Exit}
 use Rattle.outside.specs.declared.event.Exit.TheVariants.{Code, Signal}
 use Rattle.outside.specs.declared.faults.StateFault.{StateFault}
 use Rattle.airbyte_message.specs.Lanes.{one}
 use Rattle.catalog.specs.declared.stream.ConfStream.{ConfStream}
 use Rattle.catalog.specs.declared.stream.Gen.{Gen}
-use Rattle.load_rules.specs.Examples.{a, b, configured, both_streams}
+use Rattle.load_rules.specs.Examples.{a, b, configured, both_streams, plan_of_a}
 use Rattle.load_rules.specs.Lines.{line_read}
 use Rattle.load_rules.specs.Taken.{LaneState, Entry}
 use Rattle.load_rules.specs.Honest.{IsCommitted}
-use Rattle.load_rules.specs.Attempts.{Waiting, none_given, with_given, attempts, attempt_events}
-use Rattle.state_kinds.specs.Saved.{Saved, state_of}
+use Rattle.load_rules.specs.Attempts.{Waiting, none_given, with_given, attempts, attempt_events, LeavesAll, TakesState}
+use Rattle.state_kinds.specs.Saved.{Saved, nothing_saved, state_of}
 use Rattle.state_kinds.specs.Changes.{begun, given_of, put_into}
 use Rattle.state_kinds.specs.Texts.{store_text}
 use Rattle.sync_rules.specs.Generations.{Begins, gens_of, Held, generations_in}
-use Rattle.sync_rules.specs.Sync.{Running, Sync, completion}
+use Rattle.sync_rules.specs.Sync.{Running, Sync, Takes, completion}
 use Rattle.sync_rules.specs.SafeSync.{commits, IsAsked, IsCovered}
 use Rattle.sync_rules.specs.Steps.{Saves, Puts}
-use Rattle.sync_rules.specs.Examples.{GenerationsAsWorked, BreachesAsWorked, SyncsAsWorked, restarting, only_a, tell, held_a, held_both, gen, stands, begun_again, by_signal, failed, state_back, died, taken_a, taken_all}
+use Rattle.sync_rules.specs.Examples.{GenerationsAsWorked, BreachesAsWorked, SyncsAsWorked, CallsAsWorked, restarting, only_a, tell, held_a, held_all, held_both, gen, stands, begun_again, by_signal, failed, state_back, died, taken_a, taken_all, written_a, catalog_text, plan_of, entry_a, with_row, call, has_called, saved_a, first_attempt}
+use Rattle.sync_rules.proofs.Rising.{leaves_all_one}
+use Rattle.sync_rules.proofs.KindLemmas.{heads}
 
 pub generations_as_worked : GenerationsAsWorked
 generations_as_worked = record {
@@ -48,6 +60,8 @@ breaches_as_worked = record {
   mixed = refl;
   mixed_with_saved = refl;
   alone = refl;
+  counted_all = refl;
+  counted_both = refl;
   legacy = refl;
   unknown = refl;
   no_message = refl;
@@ -127,6 +141,84 @@ ended_ill : (is : ((rest : List (List ℕ)) × ([] ≡ (completion a ∷ []) ++ 
 ended_ill (inl prefix) = nil_cons prefix.1
 ended_ill (inr code) = one_zero (exit_number failed.source) (exit_number (Some (Code 0))) (number_is failed.source (Some (Code 0)) code) refl refl
 
+abbrev second_given : Waiting
+second_given = with_given (one a) (line_read tell (2 ∷ [])) first_given
+
+takes_a : TakesState tell (event.ReadLine (1 ∷ []) ∷ event.ReadLine (2 ∷ []) ∷ event.Given (1 ∷ []) ∷ event.Given (2 ∷ []) ∷ []) back taken_a
+takes_a = record {
+  waiting = second_given;
+  waits = (none_given, refl, (none_given, refl, (first_given, refl, (second_given, refl, refl))));
+  rest = [];
+  takes = record { over = []; splits = refl; others = tt; same = (refl, refl) };
+}
+
+taken_leaves : LeavesAll tell (one a) none_given state_back (record { given = second_given.given; states = [] })
+taken_leaves = (
+  none_given,
+  refl,
+  (
+    none_given,
+    refl,
+    (
+      first_given,
+      refl,
+      (
+        second_given,
+        refl,
+        (
+          record { given = second_given.given; states = [] },
+          (refl, ([], inr (taken_a, record { over = []; splits = refl; others = tt; same = (refl, refl) }), refl)),
+          refl,
+        ),
+      ),
+    ),
+  ),
+)
+
+-- where no state waits, none is taken
+none_in : {A : Type 0} (over : List A) (first : A) (rest : List A) → [] ≡ over ++ first ∷ rest → ⊥
+none_in [] first rest is = nil_cons is
+none_in (x ∷ over) first rest is = nil_cons is
+
+none_taken : (events : List Event) (left : Waiting) → LeavesAll tell (one a) none_given events left → left.states ≡ [] → (owed : Option LaneState) → Takes tell events (2 ∷ []) owed → owed ≡ None
+none_taken events left leaves none None takes = refl
+none_taken events left leaves none (Some taken) (got, are, takes) = absurd (none_in takes.takes.over taken takes.rest (sym none ∙ (ap (λ (it : Waiting). it.states) same ∙ takes.takes.splits)))
+  where
+    lane_is : got.lane ≡ one a
+    lane_is = ap (λ (it : LaneState). it.lane) (sym (heads are))
+
+    same : left ≡ takes.waiting
+    same = leaves_all_one tell (one a) none_given events left takes.waiting leaves (subst (λ lane. LeavesAll tell lane none_given events takes.waiting) lane_is takes.waits)
+
+-- spent generations begin nothing, and nothing is owed
+spent_by : (set : Saved) → ((gens : List Gen) × Begins (restarting a ∷ []) (held_a (2 ^ 62) None) gens set) ⊎ Puts (restarting a ∷ []) tell (λ state. Unit {0}) (stands (held_a (2 ^ 62) None) [] None) set → ⊥
+spent_by set (inl begins) = none_some begins.1.gens_are
+spent_by set (inr puts) = none_some puts.owed
+
+-- the catalog's text
+no_members : AreMembers line_depth (codes "{}") []
+no_members = record {
+  deep = 1;
+  within = omega arith;
+  object = record { before = []; value = json.empty_object []; after = []; spells = record { utf8 = IsUtf8-are_ascii (codes "{}") refl; object = tt; spelled = refl }; deepest = refl; places = refl };
+}
+
+catalog_is : IsCatalogText written_a (gen 0 ∷ []) catalog_text
+unfolding escape_byte digits
+catalog_is = record {
+  many = refl;
+  entries = codes "{\"generation_id\":0,\"minimum_generation_id\":0}" ∷ [];
+  are = (record { members = []; are = no_members; kept = []; keeps = refl; is = refl }, tt);
+  is = refl;
+}
+
+row_stands : (row : RawRow) → IsRowOf only_a (record { load = 1; moment = 1; plan = plan_of_a 0 0 false ∷ [] }) 0 entry_a row → IsCommitted only_a (with_row row) entry_a
+row_stands row is = record {
+  load = record { opening = record { load = 1; moment = 1; plan = plan_of_a 0 0 false ∷ [] }; events = event.Took (1 ∷ []) ∷ event.Committed 0 (row ∷ []) ∷ [] };
+  among = (0, omega arith, refl);
+  stands = record { number = 0; rows = row ∷ []; commit = (1, omega arith, refl); row = row; among = (0, omega arith, refl); is = is };
+}
+
 pub syncs_as_worked : SyncsAsWorked
 syncs_as_worked = record {
   leads = (
@@ -152,12 +244,7 @@ syncs_as_worked = record {
                 takes = (
                   back,
                   refl,
-                  record {
-                    waiting = with_given (one a) (line_read tell (2 ∷ [])) first_given;
-                    waits = (none_given, refl, (none_given, refl, (first_given, refl, (with_given (one a) (line_read tell (2 ∷ [])) first_given, refl, refl))));
-                    rest = [];
-                    takes = record { over = []; splits = refl; others = tt; same = (refl, refl) };
-                  },
+                  takes_a,
                 );
                 is = refl;
               },
@@ -200,7 +287,120 @@ syncs_as_worked = record {
       (λ set puts. absurd (false≢true (is_put_of (put_into taken_all.state (held_a 0 (Some (2 ∷ [])))) set (put_of (held_a 0 (Some (2 ∷ []))) set puts.state taken_all puts.owed puts.put)))) fits;
   keeps_b = λ text now fits. saved_by both_streams (λ state. Unit {0}) (stands (held_both None (Some (7 ∷ []))) state_back (Some taken_a)) text now (gen 0 ∷ gen 0 ∷ []) (λ set. state_of set.entries b ≡ Some (7 ∷ [])) refl refl
       (λ set puts. subst (λ (it : Saved). state_of it.entries b ≡ Some (7 ∷ [])) (put_is (put_into taken_a.state (held_both None (Some (7 ∷ [])))) set (put_of (held_both None (Some (7 ∷ []))) set puts.state taken_a puts.owed puts.put)) refl) fits;
-  goes_on = λ plan catalog states. (record { saved = refl; gens = gen 0 ∷ []; begins = record { gens_are = refl; is = refl }; catalog = catalog; states = states }, refl);
-  without_states = λ plan states now step. false≢true (sym (ap (bytes_eq (91 ∷ 2 ∷ 93 ∷ [])) (sym step.0.states ∙ states)));
-  not_begun = λ plan now step. false≢true step.0.saved;
+  goes_on = (record { saved = refl; gens = gen 0 ∷ []; begins = record { gens_are = refl; is = refl }; catalog = catalog_is; states = refl }, refl);
+  without_states = λ now step. false≢true (sym (ap (bytes_eq (91 ∷ 2 ∷ 93 ∷ [])) (sym step.0.states)));
+  not_begun = λ now step. false≢true step.0.saved;
+  first_begin = record { set = held_a 0 None; text_is = refl; by = inl (gen 0 ∷ [], record { gens_are = refl; is = refl }); is = refl };
+  spent = λ text now fits. spent_by fits.set fits.by;
+  keeps_outside = λ text now fits. saved_by only_a (λ state. Unit {0}) (stands (held_both None (Some (7 ∷ []))) [] None) text now (gen 0 ∷ []) (λ set. set ≡ held_both None (Some (7 ∷ []))) refl refl (λ set puts. absurd (none_some puts.owed)) fits;
+  put_for_all = record {
+    set = held_all (4 ∷ []);
+    text_is = refl;
+    by = inr (record { attempt = record { start = held_a 0 None; events = event.ReadLine (4 ∷ []) ∷ [] }; in_attempt = refl; state = taken_all; owed = refl; passed_on = (0, omega arith, refl); kept = refl; put = refl; beside = tt });
+    is = refl;
+  };
+  old_state = λ now step. ap (λ (it : Sync). it.owed) step.1.is ∙ none_taken [] none_given refl refl step.1.owed step.1.takes;
+  back_twice = λ now step. ap (λ (it : Sync). it.owed) step.1.is ∙ none_taken state_back (record { given = second_given.given; states = [] }) taken_leaves refl step.1.owed step.1.takes;
+  committed = λ row is. record {
+    set = held_a 0 (Some (2 ∷ []));
+    text_is = refl;
+    by = inr (record { attempt = record { start = held_a 0 None; events = state_back }; in_attempt = refl; state = taken_a; owed = refl; passed_on = (0, omega arith, refl); kept = refl; put = refl; beside = (λ covers_it. row_stands row is, tt) });
+    is = refl;
+  };
+}
+
+one_less : 1 < 1 → ⊥
+one_less h = omega (arith, h)
+
+two_one : (m n : ℕ) → m ≡ n → m ≡ 2 → n ≡ 1 → ⊥
+two_one m n same two_is one_is = omega (arith, same, two_is, one_is)
+
+three_two : 3 ≤ 2 → ⊥
+three_two h = omega (arith, h)
+
+none_less : 0 < 0 → ⊥
+none_less h = omega (arith, h)
+
+-- the set with the state, and behind the beginning of the second attempt
+abbrev put_a : Sync
+put_a = record { set = held_a 0 (Some (2 ∷ [])); previous = held_a 0 None; is_begun = true; owed = None; attempt = Some (record { start = held_a 0 None; events = state_back ++ saved_a (Some (2 ∷ [])) ∷ [] }) }
+
+abbrev begun_again_a : Sync
+begun_again_a = record { set = held_a 0 (Some (2 ∷ [])); previous = held_a 0 (Some (2 ∷ [])); is_begun = true; owed = None; attempt = Some (record { start = held_a 0 None; events = first_attempt ++ saved_a (Some (2 ∷ [])) ∷ [] }) }
+
+-- in the first attempt
+abbrev first_at : List Event → Option LaneState → Sync
+first_at events owed = record { set = held_a 0 None; previous = nothing_saved; is_begun = false; owed = owed; attempt = Some (record { start = held_a 0 None; events = events }) }
+
+pub calls_as_worked : CallsAsWorked
+calls_as_worked = record {
+  two = (
+    record { set = held_a 0 None; previous = nothing_saved; is_begun = true; owed = None; attempt = None },
+    record { set = held_a 0 None; text_is = refl; by = inl (gen 0 ∷ [], record { gens_are = refl; is = refl }); is = refl },
+    (gen 0 ∷ [], record { gens_are = refl; is = refl }),
+    (
+      first_at [] None,
+      (record { saved = refl; gens = gen 0 ∷ []; begins = record { gens_are = refl; is = refl }; catalog = catalog_is; states = refl }, refl),
+      record { counts = refl; rises = omega arith; within = omega arith; job_is = refl; store_is = refl; none_owed = refl },
+      (
+        first_at (event.ReadLine (1 ∷ []) ∷ []) None,
+        ((refl, refl), refl),
+        omega arith,
+        (
+          first_at (event.ReadLine (1 ∷ []) ∷ event.ReadLine (2 ∷ []) ∷ []) None,
+          ((refl, refl), refl),
+          omega arith,
+          (
+            first_at (event.ReadLine (1 ∷ []) ∷ event.ReadLine (2 ∷ []) ∷ event.Given (1 ∷ []) ∷ []) None,
+            ((refl, record { input_open = refl; unbroken = (refl, (refl, tt)); next = ((2 ∷ []) ∷ [], refl) }), refl),
+            omega arith,
+            (
+              first_at (event.ReadLine (1 ∷ []) ∷ event.ReadLine (2 ∷ []) ∷ event.Given (1 ∷ []) ∷ event.Given (2 ∷ []) ∷ []) None,
+              ((refl, record { input_open = refl; unbroken = (refl, (refl, tt)); next = ([], refl) }), refl),
+              omega arith,
+              (
+                first_at state_back (Some taken_a),
+                (refl, record { going = refl; none_owed = refl; owed = Some taken_a; takes = (back, refl, takes_a); is = refl }),
+                omega arith,
+                (
+                  put_a,
+                  record {
+                    set = held_a 0 (Some (2 ∷ []));
+                    text_is = refl;
+                    by = inr (record { attempt = record { start = held_a 0 None; events = state_back }; in_attempt = refl; state = taken_a; owed = refl; passed_on = (0, omega arith, refl); kept = refl; put = refl; beside = tt });
+                    is = refl;
+                  },
+                  (taken_a, refl, refl),
+                  (
+                    record put_a { attempt = Some (record { start = held_a 0 None; events = first_attempt }) },
+                    ((refl, inl ([], refl)), refl),
+                    tt,
+                    (
+                      begun_again_a,
+                      record { set = held_a 0 (Some (2 ∷ [])); text_is = refl; by = inl (gen 0 ∷ [], record { gens_are = refl; is = refl }); is = refl },
+                      (gen 0 ∷ [], record { gens_are = refl; is = refl }),
+                      (
+                        stands (held_a 0 (Some (2 ∷ []))) [] None,
+                        (record { saved = refl; gens = gen 0 ∷ []; begins = record { gens_are = refl; is = refl }; catalog = catalog_is; states = refl }, refl),
+                        record { counts = refl; rises = omega arith; within = omega arith; job_is = refl; store_is = refl; none_owed = refl },
+                        refl,
+                      ),
+                    ),
+                  ),
+                ),
+              ),
+            ),
+          ),
+        ),
+      ),
+    ),
+  );
+  owed_is_put = λ text now step. sym (put_is (put_into taken_a.state (held_a 0 None)) now.set (put_of (held_a 0 None) now.set step.0 taken_a step.1 step.2));
+  old_is_left = λ text now step. begun_is only_a (held_a 0 None) now.set step.0 (gen 0 ∷ []) refl step.1;
+  owed_first = λ plan now step. some_none step.none_owed;
+  second = record { counts = refl; rises = omega arith; within = omega arith; job_is = refl; store_is = refl; none_owed = refl };
+  anew = λ now step. one_less step.rises;
+  one_more = λ now step. two_one 2 1 step.counts refl refl;
+  beyond = λ now step. three_two step.within;
+  older = λ now step. none_less step;
 }

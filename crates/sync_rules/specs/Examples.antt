@@ -6,6 +6,8 @@ use Rattle.outside.specs.declared.event.Codes.{Codes}
 use Rattle.outside.specs.declared.event.Event.{Event}
 use Rattle.outside.specs.declared.event.Event.TheVariants as event
 use Rattle.outside.specs.declared.event.Exit.TheVariants.{Code, Signal}
+use Rattle.outside.specs.declared.event.Job.TheVariants as job
+use Rattle.outside.specs.declared.event.RawRow.{RawRow}
 use Rattle.outside.specs.declared.faults.Breach.{Breach}
 use Rattle.outside.specs.declared.faults.Breach.TheVariants as breach
 use Rattle.airbyte_message.specs.Lanes.{one, all}
@@ -14,21 +16,22 @@ use Rattle.airbyte_message.specs.declared.message.Message.{Message}
 use Rattle.airbyte_message.specs.declared.message.Message.TheVariants as message
 use Rattle.airbyte_message.specs.declared.message.StateKind.{StateKind}
 use Rattle.airbyte_message.specs.declared.message.StateKind.TheVariants as kind
-use Rattle.catalog.specs.Written.{IsCatalogText}
 use Rattle.catalog.specs.declared.modes.DestMode.TheVariants.{Overwrite}
 use Rattle.catalog.specs.declared.modes.SyncMode.TheVariants.{FullRefresh}
 use Rattle.catalog.specs.declared.stream.ConfStream.{ConfStream}
 use Rattle.catalog.specs.declared.stream.Gen.{Gen}
-use Rattle.load_rules.specs.Examples.{a, b, configured, both_streams}
+use Rattle.load_rules.specs.Examples.{a, b, configured, both_streams, plan_of_a}
 use Rattle.load_rules.specs.Lines.{Line, Reading, line_read, lines_read}
-use Rattle.load_rules.specs.Taken.{LaneState}
+use Rattle.load_rules.specs.Taken.{LaneState, Entry}
+use Rattle.load_rules.specs.Rows.{IsRowOf}
 use Rattle.state_kinds.specs.Saved.{Saved, nothing_saved, state_of}
 use Rattle.state_kinds.specs.Texts.{store_text}
 use Rattle.sync_rules.specs.Generations.{restarts, gen_of, gens_of, first_spent}
 use Rattle.sync_rules.specs.Breaches.{breach_of}
-use Rattle.sync_rules.specs.Sync.{Running, Sync, completion, Takes}
+use Rattle.sync_rules.specs.Sync.{Running, Sync, no_sync, completion}
 use Rattle.sync_rules.specs.Steps.{Step}
 use Rattle.sync_rules.specs.SafeSync.{commits, nothing, IsAsked, Goes}
+use Rattle.sync_rules.specs.Calls.{Call, Called, Standing, CallGoes, CallStep, called_at, not_called}
 
 -- streams that restart: their generations are nobody's but this project's
 abbrev pub restarting : StreamId → ConfStream
@@ -38,7 +41,7 @@ abbrev pub only_a : List ConfStream
 only_a = configured a ∷ []
 
 -- What a text of one byte is: 1 a record of `a`, 2 a state of `a`, 3 the same with a count of 3, 4 a state of all streams, 5 a state
--- without a kind, 6 a record of `b`.
+-- without a kind, 6 a record of `b`, 7 a state of all streams with a count of 2.
 abbrev pub state_told : ℕ → StateKind → Option ℕ → Option Message
 state_told object own count = Some (message.State (record { object = object ∷ []; kind = own; source_count = count }))
 
@@ -52,7 +55,8 @@ told byte =
     else (if byte == 3 then state_told 3 (kind.Stream a None) (Some 3)
     else (if byte == 4 then state_told 4 (kind.Global None []) None
     else (if byte == 5 then state_told 5 kind.Legacy None
-    else (if byte == 6 then record_told b else None)))))
+    else (if byte == 6 then record_told b
+    else (if byte == 7 then state_told 7 (kind.Global None []) (Some 2) else None))))))
 
 abbrev pub tell : Reading
 tell [] = None
@@ -69,8 +73,23 @@ abbrev pub held_both : Option (List ℕ) → Option (List ℕ) → Saved
 held_both first second =
     record { entries = record { id = a; generation = 0; state = first } ∷ record { id = b; generation = 0; state = second } ∷ []; global = None }
 
+-- a set with `a`, and a state of all streams
+abbrev pub held_all : List ℕ → Saved
+held_all state = record { entries = record { id = a; generation = 0; state = None } ∷ []; global = Some state }
+
 abbrev pub gen : ℕ → Gen
 gen generation = record { generation = generation; minimum = generation }
+
+-- `a` as a catalog has it, of which each entry is an object, and the catalog's text with generation 0
+abbrev pub written_a : List ConfStream
+written_a = record (configured a) { raw_entry = codes "{}" } ∷ []
+
+abbrev pub catalog_text : List ℕ
+catalog_text = codes "{\"streams\":[{\"generation_id\":0,\"minimum_generation_id\":0}]}"
+
+-- the attempt of this number, with these states
+abbrev pub plan_of : ℕ → List ℕ → AttemptPlan
+plan_of number listed = record { number = number; job = job.Local; store = []; catalog = catalog_text; states = listed }
 
 -- an attempt that was started with a set and has done this, and what it owes
 abbrev pub stands : Saved → List Event → Option LaneState → Sync
@@ -99,6 +118,15 @@ taken_a = record { lane = one a; state = record { object = 2 ∷ []; kind = kind
 
 abbrev pub taken_all : LaneState
 taken_all = record { lane = all; state = record { object = 4 ∷ []; kind = kind.Global None []; source_count = None }; before = [] }
+
+-- the record of `a`, and its row committed among what the attempt does
+abbrev pub entry_a : Entry
+entry_a = record { seq = 0; content = record { id = a; body = []; emitted_at = 1; meta = None } }
+
+abbrev pub with_row : RawRow → List Event
+with_row row =
+    event.ReadLine (1 ∷ []) ∷ event.ReadLine (2 ∷ []) ∷ event.Given (1 ∷ []) ∷ event.Given (2 ∷ []) ∷ event.Opened 1 1 (plan_of_a 0 0 false ∷ []) ∷ event.Took (1 ∷ [])
+    ∷ event.Committed 0 (row ∷ []) ∷ event.Got (2 ∷ []) ∷ []
 
 -- `tell` is a reading of these examples alone, so what is asked of it stands here in plain: nothing is asked beside of a state that is put.
 abbrev pub Fits : List ConfStream → Sync → Event → Sync → Type 0
@@ -132,6 +160,9 @@ pub record BreachesAsWorked : Type 0 where
   pub mixed : breach_of (a ∷ []) nothing_saved (lines ((2 ∷ []) ∷ [])) (line_read tell (4 ∷ [])) ≡ Some breach.Mixed
   pub mixed_with_saved : breach_of (a ∷ []) (held_a 0 (Some (2 ∷ []))) [] (line_read tell (4 ∷ [])) ≡ Some breach.Mixed
   pub alone : breach_of (a ∷ []) (held_a 0 None) [] (line_read tell (4 ∷ [])) ≡ None
+  -- a state of all streams counts the records of each
+  pub counted_all : breach_of (a ∷ b ∷ []) nothing_saved (lines ((1 ∷ []) ∷ (6 ∷ []) ∷ (1 ∷ []) ∷ [])) (line_read tell (7 ∷ [])) ≡ Some (breach.Miscount 2 3)
+  pub counted_both : breach_of (a ∷ b ∷ []) nothing_saved (lines ((1 ∷ []) ∷ (6 ∷ []) ∷ [])) (line_read tell (7 ∷ [])) ≡ None
   pub legacy : breach_of (a ∷ []) nothing_saved [] (line_read tell (5 ∷ [])) ≡ Some breach.Legacy
   pub unknown : breach_of (a ∷ []) nothing_saved (lines ((1 ∷ []) ∷ [])) (line_read tell (6 ∷ [])) ≡ Some breach.UnknownStream
   -- what is no message is no breach
@@ -171,7 +202,55 @@ pub record SyncsAsWorked : Type 0 where
   -- a put of `a` does not lose `b`, whatever text stands there
   pub keeps_b : (text : List ℕ) (now : Sync) → Fits both_streams (stands (held_both None (Some (7 ∷ []))) state_back (Some taken_a)) (event.Saved text) now → state_of now.set.entries b ≡ Some (7 ∷ [])
   -- The next attempt goes on from the saved set; without states it does not, nor where no set was saved for it.
-  pub goes_on : (plan : AttemptPlan) → IsCatalogText only_a (gen 0 ∷ []) plan.catalog → plan.states ≡ 91 ∷ 2 ∷ 93 ∷ []
-      → Fits only_a (begun_again (held_a 0 (Some (2 ∷ []))) (held_a 0 (Some (2 ∷ []))) died) (event.Started plan) (stands (held_a 0 (Some (2 ∷ []))) [] None)
-  pub without_states : (plan : AttemptPlan) → plan.states ≡ codes "[]" → FitsNowhere only_a (begun_again (held_a 0 (Some (2 ∷ []))) (held_a 0 (Some (2 ∷ []))) died) (event.Started plan)
-  pub not_begun : (plan : AttemptPlan) → FitsNowhere only_a (stands (held_a 0 (Some (2 ∷ []))) died None) (event.Started plan)
+  pub goes_on : Fits written_a (begun_again (held_a 0 (Some (2 ∷ []))) (held_a 0 (Some (2 ∷ []))) died) (event.Started (plan_of 2 (91 ∷ 2 ∷ 93 ∷ []))) (stands (held_a 0 (Some (2 ∷ []))) [] None)
+  pub without_states : FitsNowhere written_a (begun_again (held_a 0 (Some (2 ∷ []))) (held_a 0 (Some (2 ∷ []))) died) (event.Started (plan_of 2 (codes "[]")))
+  pub not_begun : FitsNowhere written_a (stands (held_a 0 (Some (2 ∷ []))) died None) (event.Started (plan_of 2 (91 ∷ 2 ∷ 93 ∷ [])))
+  -- a first attempt of a stream that restarts begins with generation 0; where its generations are spent nothing more is saved
+  pub first_begin : Fits (restarting a ∷ []) no_sync (event.Saved (store_text (held_a 0 None))) (record { set = held_a 0 None; previous = nothing_saved; is_begun = true; owed = None; attempt = None })
+  pub spent : (text : List ℕ) → FitsNowhere (restarting a ∷ []) (stands (held_a (2 ^ 62) None) [] None) (event.Saved text)
+  -- what is saved of a stream that is not configured stays
+  pub keeps_outside : (text : List ℕ) (now : Sync) → Fits only_a (stands (held_both None (Some (7 ∷ []))) [] None) (event.Saved text) now → now.set ≡ held_both None (Some (7 ∷ []))
+  -- a state of all streams is put
+  pub put_for_all : Fits only_a (stands (held_a 0 None) (event.ReadLine (4 ∷ []) ∷ []) (Some taken_all)) (event.Saved (store_text (held_all (4 ∷ []))))
+      (record { set = held_all (4 ∷ []); previous = held_a 0 None; is_begun = true; owed = None; attempt = Some (record { start = held_a 0 None; events = event.ReadLine (4 ∷ []) ∷ event.Saved (store_text (held_all (4 ∷ []))) ∷ [] }) })
+  -- a state that only an older attempt was given takes nothing, nor does one that comes back twice
+  pub old_state : (now : Sync) → Fits only_a (stands (held_a 0 None) [] None) (event.Got (2 ∷ [])) now → now.owed ≡ None
+  pub back_twice : (now : Sync) → Fits only_a (stands (held_a 0 (Some (2 ∷ []))) state_back None) (event.Got (2 ∷ [])) now → now.owed ≡ None
+  -- a state is put where the row of the record before it, whatever that is, stands committed
+  pub committed : (row : RawRow) → IsRowOf only_a (record { load = 1; moment = 1; plan = plan_of_a 0 0 false ∷ [] }) 0 entry_a row
+      → Step only_a tell (IsAsked only_a commits (event.Started (plan_of 1 (codes "[]")) ∷ with_row row)) (stands (held_a 0 None) state_back (Some taken_a)) (event.Saved (store_text (held_a 0 (Some (2 ∷ [])))))
+      (record { set = held_a 0 (Some (2 ∷ [])); previous = held_a 0 None; is_begun = true; owed = None; attempt = Some (record { start = held_a 0 None; events = state_back ++ event.Saved (store_text (held_a 0 (Some (2 ∷ [])))) ∷ [] }) })
+
+-- a call of at most two attempts
+abbrev pub call : Call
+call = record { job = job.Local; store = []; limit = 2 }
+
+abbrev pub has_called : ℕ → ℕ → Called
+has_called begun number = record { begun = begun; number = number }
+
+abbrev pub saved_a : Option (List ℕ) → Event
+saved_a state = event.Saved (store_text (held_a 0 state))
+
+-- Two attempts from an empty store: a record and a state of `a` are read and given, the state comes back and is saved, the attempt dies,
+-- and the next one goes on from there.
+abbrev pub first_attempt : List Event
+first_attempt = state_back ++ saved_a (Some (2 ∷ [])) ∷ event.Ended by_signal ∷ []
+
+abbrev pub two_attempts : List Event
+two_attempts =
+    saved_a None ∷ event.Started (plan_of 1 (codes "[]")) ∷ (first_attempt ++ saved_a (Some (2 ∷ [])) ∷ event.Started (plan_of 2 (91 ∷ 2 ∷ 93 ∷ [])) ∷ [])
+
+pub record CallsAsWorked : Type 0 where
+  pub two : CallGoes call written_a tell nothing [] (called_at no_sync) two_attempts (record { called = has_called 2 2; sync = stands (held_a 0 (Some (2 ∷ []))) [] None })
+  -- Behind a line that took a state nothing is saved but the set with it; before the call's first attempt it is not put.
+  pub owed_is_put : (text : List ℕ) (now : Sync) → CallStep call only_a (has_called 1 1) (stands (held_a 0 None) state_back (Some taken_a)) (event.Saved text) now → now.set ≡ held_a 0 (Some (2 ∷ []))
+  pub old_is_left : (text : List ℕ) (now : Sync) → CallStep call only_a not_called (stands (held_a 0 None) state_back (Some taken_a)) (event.Saved text) now → now.set ≡ held_a 0 None
+  -- the next attempt is not started before that
+  pub owed_first : (plan : AttemptPlan) (now : Sync) → ¬ CallStep call only_a (has_called 2 1) (stands (held_a 0 None) died (Some taken_a)) (event.Started plan) now
+  -- the number of an attempt is how many were begun, and within the limit
+  pub second : CallStep call written_a (has_called 2 1) (begun_again (held_a 0 None) (held_a 0 None) died) (event.Started (plan_of 2 (codes "[]"))) (stands (held_a 0 None) [] None)
+  pub anew : (now : Sync) → ¬ CallStep call written_a (has_called 2 1) (begun_again (held_a 0 None) (held_a 0 None) died) (event.Started (plan_of 1 (codes "[]"))) now
+  pub one_more : (now : Sync) → ¬ CallStep call written_a (has_called 1 0) (begun_again (held_a 0 None) (held_a 0 None) died) (event.Started (plan_of 2 (codes "[]"))) now
+  pub beyond : (now : Sync) → ¬ CallStep call written_a (has_called 3 2) (begun_again (held_a 0 None) (held_a 0 None) died) (event.Started (plan_of 3 (codes "[]"))) now
+  -- no line is read in an attempt of an older call
+  pub older : (now : Sync) → ¬ CallStep call only_a not_called (stands (held_a 0 None) [] None) (event.ReadLine (1 ∷ [])) now

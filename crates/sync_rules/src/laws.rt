@@ -1,6 +1,6 @@
 // The laws of syncs, each as the contract of a function that does nothing.
-ghost use Rattle.sync_rules.specs.Examples.{BreachesAsWorked, GenerationsAsWorked, SyncsAsWorked};
-ghost use Rattle.sync_rules.specs.Laws.{FrontsAreSafe, GivenArePassed, HonestIsSafe, OwnEventsTell, SafeIsPlain, SetsTake, StaysSafe, StoreHolds, TakenRise, WaysJoin, WaysKnow, WaysPart};
+ghost use Rattle.sync_rules.specs.Examples.{BreachesAsWorked, CallsAsWorked, GenerationsAsWorked, SyncsAsWorked};
+ghost use Rattle.sync_rules.specs.Laws.{CallsJoin, CallsLead, CallsTell, FrontsAreSafe, GivenArePassed, HonestCallsAreSafe, HonestIsSafe, LinesTake, OwedIsPut, OwedWasTaken, OwnEventsTell, SafeIsPlain, SavedReadsBack, SetsTake, StaysSafe, StoreHolds, TakenRise, WaysJoin, WaysKnow, WaysPart};
 
 /// What leads somewhere, and on from there, leads on.
 pub fn ways_join()
@@ -60,6 +60,51 @@ pub fn sets_take()
 /// The state store holds the text of the saved set.
 pub fn store_holds()
     ensures { StoreHolds }
+{}
+
+/// The state store's text reads as the saved set, and as no other.
+pub fn saved_reads_back()
+    ensures { SavedReadsBack }
+{}
+
+/// What is owed is what the last line took that came back.
+pub fn owed_was_taken()
+    ensures { OwedWasTaken }
+{}
+
+/// Whatever line comes back takes one given state, or none.
+pub fn lines_take()
+    ensures { LinesTake }
+{}
+
+/// What a call does leads as a sync does.
+pub fn calls_lead()
+    ensures { CallsLead }
+{}
+
+/// What a call does, and what it does from there on, it does.
+pub fn calls_join()
+    ensures { CallsJoin }
+{}
+
+/// What a call does is known by what its link adds by itself.
+pub fn calls_tell()
+    ensures { CallsTell }
+{}
+
+/// An honest call is safe, whatever was before.
+pub fn honest_calls_are_safe()
+    ensures { HonestCallsAreSafe }
+{}
+
+/// A call saves what a line took that came back, before another comes back or another attempt is started.
+pub fn owed_is_put()
+    ensures { OwedIsPut }
+{}
+
+/// Calls that were worked by hand.
+pub fn calls_as_worked()
+    ensures { CallsAsWorked }
 {}
 
 /// Generations that were worked by hand.
