@@ -6,3 +6,4 @@ pub mod ListLemmas
 pub mod JudgeLemmas
 pub mod LeaveLemmas
 pub mod PendingLemmas
+pub mod NumberLemmas

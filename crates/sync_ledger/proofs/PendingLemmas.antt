@@ -92,13 +92,13 @@ mapped_lane change None = refl
 mapped_lane change (Some account) = refl
 
 -- the lane that is changed, and another
-own_lane : (ids : List StreamId) (accounts : AllAccounts) (lane other : Lane) (change : LaneAccount → LaneAccount) → is_lane other (Some lane) ≡ true → lane_in ids (with_lane ids accounts lane change) other ≡ option_map change (lane_in ids accounts other)
+pub own_lane : (ids : List StreamId) (accounts : AllAccounts) (lane other : Lane) (change : LaneAccount → LaneAccount) → is_lane other (Some lane) ≡ true → lane_in ids (with_lane ids accounts lane change) other ≡ option_map change (lane_in ids accounts other)
 own_lane ids accounts (one id) (one other) change same = ap lane_found (own_account ids id other (changed_lane change) accounts.streams (turned other id true same)) ∙ mapped_lane change (account_of ids other accounts.streams)
 own_lane ids accounts (one id) all change same = absurd (let e : false ≡ true = same in cc)
 own_lane ids accounts all (one other) change same = absurd (let e : false ≡ true = same in cc)
 own_lane ids accounts all all change same = refl
 
-other_lane : (ids : List StreamId) (accounts : AllAccounts) (lane other : Lane) (change : LaneAccount → LaneAccount) → is_lane other (Some lane) ≡ false → lane_in ids (with_lane ids accounts lane change) other ≡ lane_in ids accounts other
+pub other_lane : (ids : List StreamId) (accounts : AllAccounts) (lane other : Lane) (change : LaneAccount → LaneAccount) → is_lane other (Some lane) ≡ false → lane_in ids (with_lane ids accounts lane change) other ≡ lane_in ids accounts other
 other_lane ids accounts (one id) (one other) change differs = ap lane_found (other_account ids id other (changed_lane change) accounts.streams (turned other id false differs))
 other_lane ids accounts (one id) all change differs = refl
 other_lane ids accounts all (one other) change differs = refl

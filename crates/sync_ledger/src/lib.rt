@@ -14,7 +14,7 @@ mod verdict;
 
 pub use accounts::{Account, LaneAccount};
 pub use form::StateForm;
-pub use laws::{ledger_laws, pending_laws};
+pub use laws::{ledger_laws, number_laws, pending_laws};
 pub use ledger::Ledger;
 pub use notes::MOST_LINES;
 pub use pending::Pending;

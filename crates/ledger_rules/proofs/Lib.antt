@@ -1,0 +1,4 @@
+pub mod Same
+pub mod Waits
+pub mod Judges
+pub mod Stands
