@@ -32,7 +32,8 @@ use Rattle.book_rules.specs.Holds.{still}
 use Rattle.book_rules.specs.Views.{BookView}
 use Rattle.book_rules.proofs.Acts.{uncommitted_length}
 use Rattle.book_rules.proofs.Lists.{all_append, length_of_map, some_is}
-use Rattle.book_rules.proofs.Taking.{one_more, still_more}
+use Rattle.book_rules.proofs.Moves.{still_more}
+use Rattle.book_rules.proofs.Taking.{one_more}
 
 -- Bounds, act by act and event by event
 

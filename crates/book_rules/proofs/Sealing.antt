@@ -18,7 +18,7 @@ use Rattle.book_rules.specs.Books.{IsPickRun, IsSealing, IsTakingBack, IsTakingB
 use Rattle.book_rules.specs.Holds.{IsHeld, AreHeld, place_of, still, accepted_of}
 use Rattle.book_rules.specs.Views.{BookView, ids}
 use Rattle.book_rules.proofs.Lists.{all_append, any_self, any_none}
-use Rattle.book_rules.proofs.Moves.{move_held, move_first_held, first_whole, first_front, move_front, accepted_move, accepted_first, length_move, length_first, all_move, all_move_first, move_as, move_none, move_twice, move_first_all, held_queued, held_out, held_queued_of, held_sealed_of}
+use Rattle.book_rules.proofs.Moves.{length_first_placed, move_held, move_first_held, first_whole, first_front, move_front, accepted_move, accepted_first, length_move, length_first, all_move, all_move_first, move_as, move_none, move_twice, move_first_all, held_queued, held_out, held_queued_of, held_sealed_of}
 use Rattle.book_rules.proofs.Whole.{IsWhole, Leads, leads_still, leads_on, MovesTo, Requeues, leads_requeued, whole_requeued}
 
 -- a batch is handed out
@@ -47,14 +47,6 @@ done_not_out batch (Out own) e = absurd (false≢true e)
 done_not_out batch Done e = refl
 
 -- Moves by one step for each record
-
-length_first_placed : (t : Placed → Bool) (place : Place) (n : ℕ) (placed : List Placed) → length (move_first t place n placed) ≡ length placed
-length_first_placed t place n [] = refl
-length_first_placed t place n (one ∷ more) = at (t one && nat_lt 0 n) (length_first_placed t place n more) (length_first_placed t place (n - 1) more)
-  where
-    at : (b : Bool) → length (move_first t place n more) ≡ length more → length (move_first t place (n - 1) more) ≡ length more → length (cond b (put_in place one ∷ move_first t place (n - 1) more) (one ∷ move_first t place n more)) ≡ length (one ∷ more)
-    at true same less = grind (arith, less)
-    at false same less = grind (arith, same)
 
 abbrev MovesBy : List ConfStream → ℕ → (Placed → Bool) → Step → Type 0
 MovesBy catalog n test step = (m : Machine) → length m.placed ≡ n → happens catalog m step ≡ record m { placed = move test Sealed m.placed }

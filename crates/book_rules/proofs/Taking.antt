@@ -44,7 +44,7 @@ use Rattle.book_rules.specs.Holds.{Holds, AreWaiting, IsHeld, AreHeld, accepted_
 use Rattle.book_rules.specs.Views.{BookView, ids}
 use Rattle.book_rules.proofs.Acts.{Adds, Ran, ran_act, ends_more, or_false}
 use Rattle.book_rules.proofs.Lists.{all_append, length_of_map}
-use Rattle.book_rules.proofs.Moves.{held_length, held_push, number_same}
+use Rattle.book_rules.proofs.Moves.{held_length, held_push, number_same, still_more}
 use Rattle.book_rules.proofs.Whole.{IsWhole, whole_good}
 
 -- Readings
@@ -126,13 +126,6 @@ empty_few book m empty w =
     let none : length (option_to_list book.queue.parked) ≡ 0 = ap (λ (parked : Option Held). length (option_to_list parked)) empty in
     let room = w.holds.room in
     omega (arith, same, long, none, room)
-
-queued_open : (list : List Entry) → filter (λ (one : Placed). not (is_done one.place)) (map machine.queue list) ≡ map machine.queue list
-queued_open [] = refl
-queued_open (entry ∷ more) = ap (λ list. machine.queue entry ∷ list) (queued_open more)
-
-pub still_more : (placed : List Placed) (list : List Entry) → still (placed ++ map machine.queue list) ≡ still placed ++ map machine.queue list
-still_more placed list = filter-append (λ (one : Placed). not (is_done one.place)) placed (map machine.queue list) ∙ ap (λ more. still placed ++ more) (queued_open list)
 
 pub line_ran : (book : BookView) (m : Machine) (text : List ℕ) (found : Option Message) (now : Option (List Event)) → IsWhole book m → book.queue.parked ≡ None → IsAnswer (IsMessage text) found → now ≡ told_more (Took text ∷ []) (dock_events book.seen) → Ran book.catalog book.opening book.limits.slots (accepts m (line_as text found)) [] now
 line_ran book m text found now w empty answer added = ran_act book.catalog book.opening book.limits.slots m (Accept line) (Takes line) (dock_events book.seen) now w.ran refl tt few (record { event = Took text; added = added; store = refl; opens = refl; is = λ read reads. ap (λ it. line_as text it) (one_answer (IsMessage text) found (read text) answer reads); over = λ b. sym (or_false b) })
