@@ -63,7 +63,7 @@ use Rattle.book_rules.proofs.Releasing.{LeadsBroken, LeadsQuiet, at_point, broke
 use Rattle.book_rules.proofs.Sealing.{seal_all_leads, seal_full_leads, seal_leads, seal_oldest_leads}
 use Rattle.book_rules.proofs.Stating.{state_whole, took_state}
 use Rattle.book_rules.proofs.Taking.{empty_few, line_as, releasable_as, other_whole, pushed_aside, pushed_in, quiet_line, record_whole, StatusesFit, took_other, took_record}
-use Rattle.book_rules.proofs.Whole.{IsWhole, Leads, MovesTo, Requeues, book_of_whole, broken_of, leads_on, leads_requeued, whole_of}
+use Rattle.book_rules.proofs.Whole.{IsWhole, Leads, MovesTo, Requeues, book_of_whole, broken_counts, broken_of, whole_counts, leads_on, leads_requeued, whole_of}
 
 -- A run of this shape leads to the book.
 pub record Went (shape : List Step → Type 0) (catalog : List ConfStream) (new : BookView) (m : Machine) : Type 0 where
@@ -150,7 +150,7 @@ broke_still book m seen stop w same =
       lanes = w.tallied.lanes;
       emitted = counts_any stop book.tally.emitted (length (filter_map state_echoed m.acts)) (counts_of_none book.tally.broken book.tally.emitted (length (filter_map state_echoed m.acts)) w.whole w.tallied.emitted);
       ended = w.tallied.ended;
-    })
+    }) (broken_counts stop book.gate.next (length (all_of book.queue)) book.gate.next m.acts m.acts refl refl (whole_counts book m w))
 
 -- the book behind a poll that gave a line, which is counted
 abbrev pub after : BookView → DockSeen → BookView
@@ -165,7 +165,7 @@ broke_line book m seen text stop w empty added =
       lanes = w.tallied.lanes;
       emitted = counts_any stop book.tally.emitted (length (filter_map state_echoed m.acts)) (counts_of_none book.tally.broken book.tally.emitted (length (filter_map state_echoed m.acts)) w.whole w.tallied.emitted);
       ended = w.tallied.ended;
-    })
+    }) (broken_counts stop book.gate.next (length (all_of book.queue)) book.gate.next m.acts m.acts refl refl (whole_counts book m w))
 
 -- What is known before a call goes on: the book is whole, and no releasable state waits.
 pub record Begins (book : BookView) (m : Machine) : Type 0 where

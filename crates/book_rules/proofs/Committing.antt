@@ -49,7 +49,7 @@ use Rattle.book_rules.proofs.Moves.{done_held, held_in_batch, held_length}
 use Rattle.book_rules.proofs.Putting.{IsOwnPlan, all_filter, all_held, all_own, filter_held, have_is, held_seqs, nil_map, none_passes, plans_alike, rows_of}
 use Rattle.book_rules.proofs.Releasing.{at_point, broke_at, counts_of_none, few_held, releases_all_lead, releases_some_lead}
 use Rattle.book_rules.proofs.Sealing.{and_none, done_not_out}
-use Rattle.book_rules.proofs.Whole.{IsWhole, book_of_whole, broken_of, whole_good, whole_of}
+use Rattle.book_rules.proofs.Whole.{IsWhole, book_of_whole, broken_of, whole_counts, whole_good, whole_of}
 
 -- the book with a batch committed, before its releases
 abbrev left_in : ℕ → List Held → List Held
@@ -274,16 +274,16 @@ went_stop : (book : BookView) (m : Machine) (new : BookView) → IsBookOf new m 
 went_stop book m new is = record { steps = []; shaped = tt; leads = is }
 
 -- a commit that failed and stands
-commit_broke : (book : BookView) (m : Machine) (batch number : ℕ) (rows : List RawRow) (id : StreamId) (seen : DockSeen) (stop : Status) → IsWhole book m → Batched book m batch number rows id → dock_events seen ≡ told_more (Committed number rows ∷ []) (dock_events book.seen) → IsBookOf (broke (record book { seen = seen }) stop) (commits m number id batch rows)
-commit_broke book m batch number rows id seen stop w b added =
-    broken_of (broke (record book { seen = seen }) stop) (commits m number id batch rows) [] stop refl (commit_ran book m batch number rows id (dock_events seen) w b added) (record {
+commit_broke : (book : BookView) (m : Machine) (batch number : ℕ) (rows : List RawRow) (id : StreamId) (seen : DockSeen) → IsWhole book m → Batched book m batch number rows id → dock_events seen ≡ told_more (Committed number rows ∷ []) (dock_events book.seen) → IsBookOf (broke (record book { seen = seen }) status.StoreFault) (commits m number id batch rows)
+commit_broke book m batch number rows id seen w b added =
+    broken_of (broke (record book { seen = seen }) status.StoreFault) (commits m number id batch rows) [] status.StoreFault refl (commit_ran book m batch number rows id (dock_events seen) w b added) (record {
       lines = w.tallied.lines ∙ ap (λ list. length list + 0) (sym same);
       most = w.tallied.most;
       records = w.tallied.records ∙ ap (λ list. length (entries list)) (sym same);
       lanes = w.tallied.lanes ∙ ap lanes_among (sym same);
-      emitted = counts_any stop book.tally.emitted (length (filter_map state_echoed (m.acts ++ Commits number rows ∷ []))) (ap (λ list. length list) (commit_echoed m.acts number rows) ∙ counts_of_none book.tally.broken book.tally.emitted (length (filter_map state_echoed m.acts)) w.whole w.tallied.emitted);
+      emitted = counts_any status.StoreFault book.tally.emitted (length (filter_map state_echoed (m.acts ++ Commits number rows ∷ []))) (ap (λ list. length list) (commit_echoed m.acts number rows) ∙ counts_of_none book.tally.broken book.tally.emitted (length (filter_map state_echoed m.acts)) w.whole w.tallied.emitted);
       ended = commit_ends m.acts number rows ∙ w.tallied.ended;
-    })
+    }) (let c = whole_counts book m w in record { within = c.within; committed_are = inr (record { front = m.acts; number = number; rows = rows; splits = refl; count_is = c.committed_is }) })
   where
     same : taken (m.acts ++ Commits number rows ∷ []) ≡ taken m.acts
     same = commit_taken m.acts number rows
@@ -291,21 +291,21 @@ commit_broke book m batch number rows id seen stop w b added =
 went_lacks : (book : BookView) (m : Machine) (stop : Status) (batch : ℕ) (new : BookView) → IsWhole book m → Stops {T = Unit {0}} stop batch (Err fault.NoMemory) book new → Went IsPutRun book.catalog new m
 went_lacks book m stop batch new w s = went_as IsPutRun book.catalog (broke (record book { seen = s.2 }) stop) new m s.5 (went_stop book m (broke (record book { seen = s.2 }) stop) (broke_still book m s.2 stop w s.4.events))
 
-went_fails : (book : BookView) (m : Machine) (stop : Status) (batch : ℕ) (new : BookView) → AreDistinct (ids book) → PlansFit book.catalog book.opening.plan → IsWhole book m → Stops {T = Unit {0}} stop batch (Err fault.Failed) book new → Went IsPutRun book.catalog new m
-went_fails book m stop batch new distinct planned w s = went_as IsPutRun book.catalog (broke (record book { seen = s.2 }) stop) new m s.5 (at s.4.events)
+went_fails : (book : BookView) (m : Machine) (batch : ℕ) (new : BookView) → AreDistinct (ids book) → PlansFit book.catalog book.opening.plan → IsWhole book m → Stops {T = Unit {0}} status.StoreFault batch (Err fault.Failed) book new → Went IsPutRun book.catalog new m
+went_fails book m batch new distinct planned w s = went_as IsPutRun book.catalog (broke (record book { seen = s.2 }) status.StoreFault) new m s.5 (at s.4.events)
   where
     b : Batched book m batch s.0 s.1 s.3.planned.stream.id
     b = batched book m batch s.0 s.1 distinct planned w s.3
 
-    at : (dock_events s.2 ≡ dock_events book.seen) ⊎ (dock_events s.2 ≡ told_more (Committed s.0 s.1 ∷ []) (dock_events book.seen)) → Went IsPutRun book.catalog (broke (record book { seen = s.2 }) stop) m
-    at (inl same) = went_stop book m (broke (record book { seen = s.2 }) stop) (broke_still book m s.2 stop w same)
-    at (inr added) = record { steps = Commit s.0 s.3.planned.stream.id batch s.1 ∷ []; shaped = tt; leads = subst (IsBookOf (broke (record book { seen = s.2 }) stop)) (sym b.happens_is) (commit_broke book m batch s.0 s.1 s.3.planned.stream.id s.2 stop w b added) }
+    at : (dock_events s.2 ≡ dock_events book.seen) ⊎ (dock_events s.2 ≡ told_more (Committed s.0 s.1 ∷ []) (dock_events book.seen)) → Went IsPutRun book.catalog (broke (record book { seen = s.2 }) status.StoreFault) m
+    at (inl same) = went_stop book m (broke (record book { seen = s.2 }) status.StoreFault) (broke_still book m s.2 status.StoreFault w same)
+    at (inr added) = record { steps = Commit s.0 s.3.planned.stream.id batch s.1 ∷ []; shaped = tt; leads = subst (IsBookOf (broke (record book { seen = s.2 }) status.StoreFault)) (sym b.happens_is) (commit_broke book m batch s.0 s.1 s.3.planned.stream.id s.2 w b added) }
 
 went_breaks : (book : BookView) (m : Machine) (stop : Status) (batch : ℕ) (new : BookView) → AreDistinct (ids book) → PlansFit book.catalog book.opening.plan → IsWhole book m → BreaksPut stop batch book new → Went IsPutRun book.catalog new m
 went_breaks book m status.NoMemory batch new distinct planned w (inl lacks) = went_as IsPutRun book.catalog (broke book status.NoMemory) new m lacks (went_stop book m (broke book status.NoMemory) (broke_still book m book.seen status.NoMemory w refl))
 went_breaks book m status.NoMemory batch new distinct planned w (inr (inl s)) = went_lacks book m status.NoMemory batch new w s
 went_breaks book m status.NoMemory batch new distinct planned w (inr (inr c)) = went_commits book m batch (Err fault.NoMemory) new distinct planned w c
-went_breaks book m status.StoreFault batch new distinct planned w s = went_fails book m status.StoreFault batch new distinct planned w s
+went_breaks book m status.StoreFault batch new distinct planned w s = went_fails book m batch new distinct planned w s
 went_breaks book m status.WriteFault batch new distinct planned w c = went_commits book m batch (Err fault.Failed) new distinct planned w c
 went_breaks book m _ batch new distinct planned w none = absurd none
 

@@ -27,6 +27,7 @@ reseen_of book m seen same is = record {
     used = is.reached.used;
     told = subst (λ (events : Option (List Event)). IfSome events (Tells book.opening m.acts is.reached.unused)) (sym same) is.reached.told;
     tallied = is.reached.tallied;
+    counted = is.reached.counted;
   };
   holds = λ none. let h = is.holds none in record {
     content = h.content;

@@ -28,7 +28,7 @@ use Rattle.load_rules.specs.Finished.{last_status}
 use Rattle.load_rules.specs.Machine.{Machine, Step, Release, run, happens, releases, is_releasable, without_first}
 use Rattle.load_rules.specs.Prefixes.{IsPrefix}
 use Rattle.load_rules.specs.Taken.{LaneState, entries, since, count_of}
-use Rattle.load_rules.proofs.Machines.{echo_taken}
+use Rattle.load_rules.proofs.Machines.{echo_done, echo_taken}
 use Rattle.load_rules.proofs.SafeRuns.{runs_grow}
 use Rattle.book_rules.specs.declared.answer.Tally.{Tally}
 use Rattle.book_rules.specs.Books.{CountsEchoes, IsBookOf, IsQuiet, IsReleasing, Tallied}
@@ -39,7 +39,7 @@ use Rattle.book_rules.proofs.Acts.{Adds, Ran, ran_act, ran_still, ends_more, or_
 use Rattle.book_rules.proofs.Heads.{FoundAlike, clear_is, found_alike, without_alike, rising_fronts, without_shorter}
 use Rattle.book_rules.proofs.Lists.{all_append, none_is, none_some, some_is}
 use Rattle.book_rules.proofs.Moves.{held_length}
-use Rattle.book_rules.proofs.Whole.{IsWhole, Leads, leads_still, leads_on, whole_good, broken_of}
+use Rattle.book_rules.proofs.Whole.{IsWhole, Leads, leads_still, leads_on, whole_good, broken_counts, broken_of, whole_counts}
 
 -- A gate that stands for the same
 
@@ -278,12 +278,12 @@ stop_still book last new m stop next_is emitted_is same counts w =
       lanes = w.tallied.lanes;
       emitted = counts new.emitted (length (filter_map state_echoed m.acts)) (counts_of_none book.tally.broken last.emitted (length (filter_map state_echoed m.acts)) w.whole w.tallied.emitted ∙ sym emitted_is);
       ended = w.tallied.ended;
-    })
+    }) (broken_counts stop last.gate.next (length (all_of book.queue)) new.gate.next m.acts m.acts next_is refl (whole_counts (at_point book last) m w))
 
 -- it stands
 stop_stands : (book : BookView) (last new : Point) (m : Machine) (pending : Pending) (line : List ℕ) → AreDistinct (ids book) → TakesHead pending last.gate new.gate → IsEchoOf pending line → new.emitted ≡ last.emitted → dock_events new.seen ≡ told_more (Emitted line ∷ []) (dock_events last.seen) → IsWhole (at_point book last) m → IsBookOf (broke_at book new status.WriteFault) (happens book.catalog m Release)
 stop_stands book last new m pending line distinct takes echo emitted_is added w =
-    subst (IsBookOf (broke_at book new status.WriteFault)) (sym machine) (broken_of (broke_at book new status.WriteFault) (releases m (Some head.state)) [] status.WriteFault refl (subst (λ (it : Machine). Ran book.catalog book.opening book.limits.slots it [] (dock_events new.seen)) machine (echo_ran (at_point book last) m distinct w pending line (dock_events new.seen) head echo added)) (tallied_echo (at_point book last).tally (broke_at book new status.WriteFault).tally last.gate.next new.gate.next m.acts head.state refl refl refl (ap (λ (it : GateView). it.next) takes.view) (inr counts) w.tallied))
+    subst (IsBookOf (broke_at book new status.WriteFault)) (sym machine) (broken_of (broke_at book new status.WriteFault) (releases m (Some head.state)) [] status.WriteFault refl (subst (λ (it : Machine). Ran book.catalog book.opening book.limits.slots it [] (dock_events new.seen)) machine (echo_ran (at_point book last) m distinct w pending line (dock_events new.seen) head echo added)) (tallied_echo (at_point book last).tally (broke_at book new status.WriteFault).tally last.gate.next new.gate.next m.acts head.state refl refl refl (ap (λ (it : GateView). it.next) takes.view) (inr counts) w.tallied) (broken_counts status.WriteFault last.gate.next (length (all_of book.queue)) new.gate.next m.acts (m.acts ++ Echoes head.state ∷ []) (ap (λ (it : GateView). it.next) takes.view) (echo_done m.acts head.state) (whole_counts (at_point book last) m w)))
   where
     head : Head (at_point book last) m w.holds.content pending
     head = head_is (at_point book last) m distinct w pending (takes.head w.holds.content w.holds.gate)

@@ -1,16 +1,17 @@
 -- What every book is: a run of the machine, and what its dock tells is the load of that run.
-use Rattle.std.specs.Prelude.{◌≡◌, ◌⊎◌, ℕ, ◌+◌, ◌≤◌, ◌^◌, List, [], ◌∷◌, ◌++◌, map, filter_map, length, Option, None, Some, IfSome, find}
+use Rattle.std.specs.Prelude.{◌≡◌, ◌⊎◌, ℕ, ◌+◌, ◌-◌, ◌≤◌, ◌^◌, List, [], ◌∷◌, ◌++◌, map, filter_map, length, Option, None, Some, IfSome, find}
 use Rattle.std.specs.List.{AllByRecursion, list_any}
 use Rattle.outside.specs.Dock.{DockSeen, dock_events, took_over}
 use Rattle.outside.specs.Limits.{AreLimits}
 use Rattle.outside.specs.declared.event.Event.{Event}
+use Rattle.outside.specs.declared.event.RawRow.{RawRow}
 use Rattle.outside.specs.declared.status.Status.{Status}
 use Rattle.outside.specs.declared.status.Status.TheVariants as status
 use Rattle.basics.specs.declared.limits.TheConstants.{LONGEST_LINE}
 use Rattle.catalog.specs.Configured.{AreConfigured}
 use Rattle.catalog.specs.declared.stream.ConfStream.{ConfStream}
-use Rattle.book_queue.specs.Content.{Held}
-use Rattle.load_rules.specs.Acts.{Act, Takes, AreActs, taken, state_echoed}
+use Rattle.book_queue.specs.Content.{Held, all_of}
+use Rattle.load_rules.specs.Acts.{Act, Commits, Takes, AreActs, committed, taken, state_echoed}
 use Rattle.load_rules.specs.Bounded.{AreBounded, IsBounded}
 use Rattle.load_rules.specs.Engine.{PlansFit}
 use Rattle.load_rules.specs.Lines.{Reading, IsReading, line_read}
@@ -54,6 +55,23 @@ pub record Tallied (tally : Tally) (next : ℕ) (acts : List Act) (unused : List
   pub emitted : CountsEchoes tally.broken tally.emitted (length (filter_map state_echoed acts))
   pub ended : list_any is_end acts ≡ tally.is_ended
 
+-- So many were committed before a commit whose rows may stand or not.
+pub record StandsBehind (count : ℕ) (acts : List Act) : Type 0 where
+  pub front : List Act
+  pub number : ℕ
+  pub rows : List RawRow
+  pub splits : acts ≡ front ++ Commits number rows ∷ []
+  pub count_is : length (committed front) ≡ count
+
+abbrev pub CountsCommits : Option Status → ℕ → List Act → Type 0
+CountsCommits (Some status.StoreFault) count acts = (length (committed acts) ≡ count) ⊎ StandsBehind count acts
+CountsCommits broken count acts = length (committed acts) ≡ count
+
+-- Of so many records some are held, and the others are committed; where a commit failed, its rows may stand, though they are held.
+pub record CountsRecords (broken : Option Status) (next held : ℕ) (acts : List Act) : Type 0 where
+  pub within : held ≤ next
+  pub committed_are : CountsCommits broken (next - held) acts
+
 -- no line, or one where a record more may be held
 abbrev pub AreUnused : ℕ → List Act → List (List ℕ) → Type 0
 AreUnused slots acts [] = Unit {0}
@@ -71,6 +89,7 @@ pub record Reached (book : BookView) (m : Machine) : Type 0 where
   pub used : book.tally.broken ≡ None → unused ≡ []
   pub told : IfSome (dock_events book.seen) (Tells book.opening m.acts unused)
   pub tallied : Tallied book.tally book.gate.next m.acts unused
+  pub counted : CountsRecords book.tally.broken book.gate.next (length (all_of book.queue)) m.acts
 
 -- No state that waits may go.
 abbrev pub IsQuiet : Machine → Type 0
