@@ -92,7 +92,7 @@ same_long now held rest same = let a = length-append now rest in let b = length-
 -- A book that is broken keeps its run, whatever its queue has: nothing else is known of it.
 broken_moved : (book : BookView) (m : Machine) (now : QueueView) (stop : Status) → length (all_of now) ≡ length (all_of book.queue) → book.tally.broken ≡ Some stop → IsBookOf book m → IsBookOf (record book { queue = now }) m
 broken_moved book m now stop long broken is = record {
-  reached = record { steps = is.reached.steps; runs = is.reached.runs; safe = is.reached.safe; bounded = is.reached.bounded; unused = is.reached.unused; unused_are = is.reached.unused_are; used = is.reached.used; told = is.reached.told; tallied = is.reached.tallied; counted = subst (λ (held : ℕ). CountsRecords book.tally.broken book.gate.next held m.acts) (sym long) is.reached.counted };
+  reached = record { steps = is.reached.steps; runs = is.reached.runs; safe = is.reached.safe; bounded = is.reached.bounded; unused = is.reached.unused; unused_are = is.reached.unused_are; used = is.reached.used; told = is.reached.told; tallied = is.reached.tallied; good = is.reached.good; why = is.reached.why; counted = subst (λ (held : ℕ). CountsRecords book.tally.broken book.gate.next held m.acts) (sym long) is.reached.counted };
   holds = λ none. absurd (none_is stop (sym broken ∙ none));
   quiet = λ none. absurd (none_is stop (sym broken ∙ none));
 }

@@ -21,6 +21,7 @@ use Rattle.outside.specs.declared.event.RawRow.{RawRow}
 use Rattle.outside.specs.declared.fault.Fault.{Fault}
 use Rattle.outside.specs.declared.fault.Fault.TheVariants as fault
 use Rattle.outside.specs.declared.line.SeqLine.{SeqLine}
+use Rattle.outside.specs.declared.link.PollKind.{PollKind}
 use Rattle.outside.specs.declared.status.Status.{Status}
 use Rattle.outside.specs.declared.status.Status.TheVariants as status
 use Rattle.book_queue.specs.Content.{Held, all_of, batch_of, number_below}
@@ -37,7 +38,7 @@ use Rattle.load_rules.proofs.Machines.{commit_taken, length-move, numbered_place
 use Rattle.book_rules.specs.declared.answer.Put.{Put}
 use Rattle.book_rules.specs.declared.answer.Put.TheVariants as put
 use Rattle.book_rules.specs.Accepts.{broken_by}
-use Rattle.book_rules.specs.Books.{IsBookOf, IsPutRun, IsReleasing, Runs, Tallied}
+use Rattle.book_rules.specs.Books.{BrokeBy, IsBookOf, IsPutRun, IsReleasing, Runs, Tallied}
 use Rattle.book_rules.specs.Holds.{AreHeld, IsHeld, accepted_of, is_end, lanes_among, still}
 use Rattle.book_rules.specs.Puts.{BreaksPut, BrokenPut, Commits as CommitsBook, CommitsRows, GateCommits, OwnRows, PutAnswer, Stops, seqs_of}
 use Rattle.book_rules.specs.Releases.{Point, ReleaseAnswer, stop_of}
@@ -172,7 +173,7 @@ batched book m batch number rows distinct planned w own = record {
 
 commit_ran : (book : BookView) (m : Machine) (batch number : ℕ) (rows : List RawRow) (id : StreamId) (now : Option (List Event)) → IsWhole book m → Batched book m batch number rows id → now ≡ told_more (Committed number rows ∷ []) (dock_events book.seen) → Ran book.catalog book.opening book.limits.slots (commits m number id batch rows) [] now
 commit_ran book m batch number rows id now w b added =
-    subst (λ (it : Machine). Ran book.catalog book.opening book.limits.slots it [] now) b.happens_is (ran_act book.catalog book.opening book.limits.slots m (Commit number id batch rows) (Commits number rows) (dock_events book.seen) now w.ran (ap (λ (it : Machine). it.acts) b.happens_is) b.made few (record { event = Committed number rows; added = added; store = refl; opens = refl; is = λ read reads. (refl, refl); over = λ it. sym (or_false it) }))
+    subst (λ (it : Machine). Ran book.catalog book.opening book.limits.slots it [] now) b.happens_is (ran_act book.catalog book.opening book.limits.slots m (Commit number id batch rows) (Commits number rows) (dock_events book.seen) now w.ran (ap (λ (it : Machine). it.acts) b.happens_is) tt b.made few (record { event = Committed number rows; added = added; store = refl; opens = refl; is = λ read reads. (refl, refl); over = λ it. sym (or_false it) }))
   where
     fewer : length (still (move (is_in_batch id batch) Done m.placed)) ≤ book.limits.slots + 1
     fewer =
@@ -283,13 +284,13 @@ commit_broke book m batch number rows id seen w b added =
       lanes = w.tallied.lanes ∙ ap lanes_among (sym same);
       emitted = counts_any status.StoreFault book.tally.emitted (length (filter_map state_echoed (m.acts ++ Commits number rows ∷ []))) (ap (λ list. length list) (commit_echoed m.acts number rows) ∙ counts_of_none book.tally.broken book.tally.emitted (length (filter_map state_echoed m.acts)) w.whole w.tallied.emitted);
       ended = commit_ends m.acts number rows ∙ w.tallied.ended;
-    }) (let c = whole_counts book m w in record { within = c.within; committed_are = inr (record { front = m.acts; number = number; rows = rows; splits = refl; count_is = c.committed_is }) })
+    }) (let c = whole_counts book m w in record { within = c.within; committed_are = inr (record { front = m.acts; number = number; rows = rows; splits = refl; count_is = c.committed_is }) }) tt
   where
     same : taken (m.acts ++ Commits number rows ∷ []) ≡ taken m.acts
     same = commit_taken m.acts number rows
 
-went_lacks : (book : BookView) (m : Machine) (stop : Status) (batch : ℕ) (new : BookView) → IsWhole book m → Stops {T = Unit {0}} stop batch (Err fault.NoMemory) book new → Went IsPutRun book.catalog new m
-went_lacks book m stop batch new w s = went_as IsPutRun book.catalog (broke (record book { seen = s.2 }) stop) new m s.5 (went_stop book m (broke (record book { seen = s.2 }) stop) (broke_still book m s.2 stop w s.4.events))
+went_lacks : (book : BookView) (m : Machine) (stop : Status) (batch : ℕ) (new : BookView) → IsWhole book m → ((poll : PollKind) → BrokeBy (ids book) book.tally.lines poll m.acts [] stop) → Stops {T = Unit {0}} stop batch (Err fault.NoMemory) book new → Went IsPutRun book.catalog new m
+went_lacks book m stop batch new w why s = went_as IsPutRun book.catalog (broke (record book { seen = s.2 }) stop) new m s.5 (went_stop book m (broke (record book { seen = s.2 }) stop) (broke_still book m s.2 stop w s.4.events (why s.2.face.poll)))
 
 went_fails : (book : BookView) (m : Machine) (batch : ℕ) (new : BookView) → AreDistinct (ids book) → PlansFit book.catalog book.opening.plan → IsWhole book m → Stops {T = Unit {0}} status.StoreFault batch (Err fault.Failed) book new → Went IsPutRun book.catalog new m
 went_fails book m batch new distinct planned w s = went_as IsPutRun book.catalog (broke (record book { seen = s.2 }) status.StoreFault) new m s.5 (at s.4.events)
@@ -298,12 +299,12 @@ went_fails book m batch new distinct planned w s = went_as IsPutRun book.catalog
     b = batched book m batch s.0 s.1 distinct planned w s.3
 
     at : (dock_events s.2 ≡ dock_events book.seen) ⊎ (dock_events s.2 ≡ told_more (Committed s.0 s.1 ∷ []) (dock_events book.seen)) → Went IsPutRun book.catalog (broke (record book { seen = s.2 }) status.StoreFault) m
-    at (inl same) = went_stop book m (broke (record book { seen = s.2 }) status.StoreFault) (broke_still book m s.2 status.StoreFault w same)
+    at (inl same) = went_stop book m (broke (record book { seen = s.2 }) status.StoreFault) (broke_still book m s.2 status.StoreFault w same tt)
     at (inr added) = record { steps = Commit s.0 s.3.planned.stream.id batch s.1 ∷ []; shaped = tt; leads = subst (IsBookOf (broke (record book { seen = s.2 }) status.StoreFault)) (sym b.happens_is) (commit_broke book m batch s.0 s.1 s.3.planned.stream.id s.2 w b added) }
 
 went_breaks : (book : BookView) (m : Machine) (stop : Status) (batch : ℕ) (new : BookView) → AreDistinct (ids book) → PlansFit book.catalog book.opening.plan → IsWhole book m → BreaksPut stop batch book new → Went IsPutRun book.catalog new m
-went_breaks book m status.NoMemory batch new distinct planned w (inl lacks) = went_as IsPutRun book.catalog (broke book status.NoMemory) new m lacks (went_stop book m (broke book status.NoMemory) (broke_still book m book.seen status.NoMemory w refl))
-went_breaks book m status.NoMemory batch new distinct planned w (inr (inl s)) = went_lacks book m status.NoMemory batch new w s
+went_breaks book m status.NoMemory batch new distinct planned w (inl lacks) = went_as IsPutRun book.catalog (broke book status.NoMemory) new m lacks (went_stop book m (broke book status.NoMemory) (broke_still book m book.seen status.NoMemory w refl tt))
+went_breaks book m status.NoMemory batch new distinct planned w (inr (inl s)) = went_lacks book m status.NoMemory batch new w (λ poll. tt) s
 went_breaks book m status.NoMemory batch new distinct planned w (inr (inr c)) = went_commits book m batch (Err fault.NoMemory) new distinct planned w c
 went_breaks book m status.StoreFault batch new distinct planned w s = went_fails book m batch new distinct planned w s
 went_breaks book m status.WriteFault batch new distinct planned w c = went_commits book m batch (Err fault.Failed) new distinct planned w c

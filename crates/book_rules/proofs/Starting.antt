@@ -100,7 +100,7 @@ number_low streams number id named = let lt = slice_get_within (ids_of streams) 
 
 fresh_whole : (streams : List ConfStream) (limits : Limits) (seen : DockSeen) (opening : Opening) (gate : GateView) → Stands (nothing_for (length streams)) gate → gate.streams ≡ length streams → gate.next ≡ 0 → gate.states ≡ 0 → IfSome (dock_events seen) (Tells opening [] []) → IsWhole (fresh_book streams limits seen opening gate) start
 fresh_whole streams limits seen opening gate stands streams_is next states told = record {
-  ran = record { steps = []; runs = refl; safe = tt; bounded = tt; unused_are = tt; told = told };
+  ran = record { steps = []; runs = refl; safe = tt; bounded = tt; good = tt; unused_are = tt; told = told };
   tallied = record { lines = refl; most = omega arith; records = next; lanes = refl; emitted = refl; ended = refl };
   holds = record {
     content = nothing_for (length streams);

@@ -15,7 +15,7 @@ use Rattle.load_rules.specs.Machine.{Machine, Placed, Step, start, run}
 use Rattle.load_rules.proofs.Machines.{IsGood}
 use Rattle.load_rules.proofs.SafeRuns.{runs_grow}
 use Rattle.book_rules.specs.declared.answer.Tally.{Tally}
-use Rattle.book_rules.specs.Books.{CountsCommits, CountsRecords, IsBookOf, IsQuiet, Reached, RunsTo, Tallied}
+use Rattle.book_rules.specs.Books.{BrokeBy, CountsCommits, CountsRecords, IsBookOf, IsQuiet, Reached, RunsTo, Tallied}
 use Rattle.book_rules.specs.Holds.{Holds, AreHeld, accepted_of, still}
 use Rattle.book_rules.specs.Views.{BookView, ids}
 use Rattle.book_rules.proofs.Acts.{Ran, ran_good, ran_moved}
@@ -33,10 +33,10 @@ pub whole_good : (book : BookView) (m : Machine) → IsWhole book m → IsGood m
 whole_good book m w = ran_good book.catalog book.opening book.limits.slots m [] (dock_events book.seen) w.ran
 
 ran_of : (book : BookView) (m : Machine) (r : Reached book m) → Ran book.catalog book.opening book.limits.slots m r.unused (dock_events book.seen)
-ran_of book m r = record { steps = r.steps; runs = r.runs; safe = r.safe; bounded = r.bounded; unused_are = r.unused_are; told = r.told }
+ran_of book m r = record { steps = r.steps; runs = r.runs; safe = r.safe; bounded = r.bounded; good = r.good; unused_are = r.unused_are; told = r.told }
 
-pub reached_by : (book : BookView) (m : Machine) (unused : List (List ℕ)) → Ran book.catalog book.opening book.limits.slots m unused (dock_events book.seen) → Tallied book.tally book.gate.next m.acts unused → CountsRecords book.tally.broken book.gate.next (length (all_of book.queue)) m.acts → (book.tally.broken ≡ None → unused ≡ []) → Reached book m
-reached_by book m unused r tallied counted used = record { steps = r.steps; runs = r.runs; safe = r.safe; bounded = r.bounded; unused = unused; unused_are = r.unused_are; used = used; told = r.told; tallied = tallied; counted = counted }
+pub reached_by : (book : BookView) (m : Machine) (unused : List (List ℕ)) → Ran book.catalog book.opening book.limits.slots m unused (dock_events book.seen) → Tallied book.tally book.gate.next m.acts unused → CountsRecords book.tally.broken book.gate.next (length (all_of book.queue)) m.acts → IfSome book.tally.broken (BrokeBy (ids book) book.tally.lines book.seen.face.poll m.acts unused) → (book.tally.broken ≡ None → unused ≡ []) → Reached book m
+reached_by book m unused r tallied counted why used = record { steps = r.steps; runs = r.runs; safe = r.safe; bounded = r.bounded; unused = unused; unused_are = r.unused_are; used = used; told = r.told; tallied = tallied; good = r.good; why = why; counted = counted }
 
 pub whole_of : (book : BookView) (m : Machine) → book.tally.broken ≡ None → IsBookOf book m → IsWhole book m
 whole_of book m whole is = record {
@@ -74,12 +74,12 @@ broken_counts stop next held later acts now next_is same c = record {
 }
 
 pub book_of_whole : (book : BookView) (m : Machine) → IsWhole book m → IsQuiet m → IsBookOf book m
-book_of_whole book m w quiet = record { reached = reached_by book m [] w.ran w.tallied (let c = whole_counts book m w in record { within = c.within; committed_are = none_commits book.tally.broken (book.gate.next - length (all_of book.queue)) m.acts w.whole c.committed_is }) (λ none. refl); holds = λ none. w.holds; quiet = λ none. quiet }
+book_of_whole book m w quiet = record { reached = reached_by book m [] w.ran w.tallied (let c = whole_counts book m w in record { within = c.within; committed_are = none_commits book.tally.broken (book.gate.next - length (all_of book.queue)) m.acts w.whole c.committed_is }) (subst (λ (o : Option Status). IfSome o (BrokeBy (ids book) book.tally.lines book.seen.face.poll m.acts [])) (sym w.whole) tt) (λ none. refl); holds = λ none. w.holds; quiet = λ none. quiet }
 
 -- of a broken book only its run is known, and its tally
-pub broken_of : (book : BookView) (m : Machine) (unused : List (List ℕ)) (stop : Status) → book.tally.broken ≡ Some stop → Ran book.catalog book.opening book.limits.slots m unused (dock_events book.seen) → Tallied book.tally book.gate.next m.acts unused → CountsRecords (Some stop) book.gate.next (length (all_of book.queue)) m.acts → IsBookOf book m
-broken_of book m unused stop broken r tallied counted = record {
-  reached = reached_by book m unused r tallied (subst (λ (o : Option Status). CountsRecords o book.gate.next (length (all_of book.queue)) m.acts) (sym broken) counted) (λ none. absurd (none_is stop (sym broken ∙ none)));
+pub broken_of : (book : BookView) (m : Machine) (unused : List (List ℕ)) (stop : Status) → book.tally.broken ≡ Some stop → Ran book.catalog book.opening book.limits.slots m unused (dock_events book.seen) → Tallied book.tally book.gate.next m.acts unused → CountsRecords (Some stop) book.gate.next (length (all_of book.queue)) m.acts → BrokeBy (ids book) book.tally.lines book.seen.face.poll m.acts unused stop → IsBookOf book m
+broken_of book m unused stop broken r tallied counted why = record {
+  reached = reached_by book m unused r tallied (subst (λ (o : Option Status). CountsRecords o book.gate.next (length (all_of book.queue)) m.acts) (sym broken) counted) (subst (λ (o : Option Status). IfSome o (BrokeBy (ids book) book.tally.lines book.seen.face.poll m.acts unused)) (sym broken) why) (λ none. absurd (none_is stop (sym broken ∙ none)));
   holds = λ none. absurd (none_is stop (sym broken ∙ none));
   quiet = λ none. absurd (none_is stop (sym broken ∙ none));
 }

@@ -5,24 +5,33 @@ use Rattle.outside.specs.Dock.{DockSeen, dock_events, took_over}
 use Rattle.outside.specs.Limits.{AreLimits}
 use Rattle.outside.specs.declared.event.Event.{Event}
 use Rattle.outside.specs.declared.event.RawRow.{RawRow}
+use Rattle.outside.specs.declared.faults.InputKind.{InputKind}
+use Rattle.outside.specs.declared.faults.InputKind.TheVariants as input
+use Rattle.outside.specs.declared.link.PollKind.{PollKind}
+use Rattle.outside.specs.declared.link.PollKind.TheVariants as poll_kind
 use Rattle.outside.specs.declared.status.Status.{Status}
 use Rattle.outside.specs.declared.status.Status.TheVariants as status
 use Rattle.basics.specs.declared.limits.TheConstants.{LONGEST_LINE}
+use Rattle.basics.specs.declared.stream.StreamId.{StreamId}
+use Rattle.json_fields.specs.Answer.{IsAnswer}
+use Rattle.airbyte_message.specs.Messages.{IsMessage}
+use Rattle.airbyte_message.specs.declared.message.Message.{Message}
 use Rattle.catalog.specs.Configured.{AreConfigured}
 use Rattle.catalog.specs.declared.stream.ConfStream.{ConfStream}
 use Rattle.book_queue.specs.Content.{Held, all_of}
 use Rattle.load_rules.specs.Acts.{Act, Commits, Takes, AreActs, committed, taken, state_echoed}
 use Rattle.load_rules.specs.Bounded.{AreBounded, IsBounded}
 use Rattle.load_rules.specs.Engine.{PlansFit}
-use Rattle.load_rules.specs.Lines.{Reading, IsReading, line_read}
+use Rattle.load_rules.specs.Lines.{Line, Reading, IsReading, line_read}
 use Rattle.load_rules.specs.Loads.{Load, Opening, loads}
 use Rattle.load_rules.specs.Machine.{Machine, Step, Accept, End, Seal, HandOut, Commit, TakeBack, Release, start, run, is_releasable}
 use Rattle.load_rules.specs.Prefixes.{EachFits}
 use Rattle.load_rules.specs.Taken.{entries}
 use Rattle.load_rules.specs.SafeDest.{Fits, uncommitted, IsSafeDest, IsSafeLoad}
 use Rattle.book_rules.specs.declared.answer.Tally.{Tally}
+use Rattle.book_rules.specs.Accepts.{fault_of}
 use Rattle.book_rules.specs.Holds.{Holds, is_end, lanes_among}
-use Rattle.book_rules.specs.Views.{BookView}
+use Rattle.book_rules.specs.Views.{BookView, ids}
 
 -- at most so many records are taken and not committed behind an act
 abbrev pub HoldsFew : ℕ → List Act → Act → Type 0
@@ -72,6 +81,30 @@ pub record CountsRecords (broken : Option Status) (next held : ℕ) (acts : List
   pub within : held ≤ next
   pub committed_are : CountsCommits broken (next - held) acts
 
+-- a line that has no fault behind these
+abbrev pub IsGoodLine : List StreamId → List Line → Line → Type 0
+IsGoodLine ids before line = fault_of input.BadLine ids (lanes_among before) line.found ≡ None
+
+-- the line that was taken last has this fault first
+pub record IsRefused (unread kind : InputKind) (ids : List StreamId) (acts : List Act) (unused : List (List ℕ)) : Type 0 where
+  pub line : List ℕ
+  pub last : unused ≡ line ∷ []
+  pub found : Option Message
+  pub read : IsAnswer (IsMessage line) found
+  pub fault : fault_of unread ids (lanes_among (taken acts)) found ≡ Some kind
+
+-- Why a book is broken: by the first line with a fault, with its number; or by a fault of its dock, or want of memory.
+abbrev pub BrokeBy : List StreamId → ℕ → PollKind → List Act → List (List ℕ) → Status → Type 0
+BrokeBy ids lines poll acts unused (status.BadInput input.TooLong number) = (number ≡ lines + 1) × (unused ≡ []) × (poll ≡ poll_kind.TooLong)
+BrokeBy ids lines poll acts unused (status.BadInput input.TornTail number) = (number ≡ lines) × (poll ≡ poll_kind.Torn) × IsRefused input.TornTail input.TornTail ids acts unused
+BrokeBy ids lines poll acts unused (status.BadInput kind number) = (number ≡ lines) × IsRefused input.BadLine kind ids acts unused
+BrokeBy ids lines poll acts unused status.TooManyLines = lines ≡ 2 ^ 32
+BrokeBy ids lines poll acts unused status.StoreFault = Unit {0}
+BrokeBy ids lines poll acts unused status.ReadFault = Unit {0}
+BrokeBy ids lines poll acts unused status.WriteFault = Unit {0}
+BrokeBy ids lines poll acts unused status.NoMemory = Unit {0}
+BrokeBy ids lines poll acts unused stop = ⊥
+
 -- no line, or one where a record more may be held
 abbrev pub AreUnused : ℕ → List Act → List (List ℕ) → Type 0
 AreUnused slots acts [] = Unit {0}
@@ -89,6 +122,8 @@ pub record Reached (book : BookView) (m : Machine) : Type 0 where
   pub used : book.tally.broken ≡ None → unused ≡ []
   pub told : IfSome (dock_events book.seen) (Tells book.opening m.acts unused)
   pub tallied : Tallied book.tally book.gate.next m.acts unused
+  pub good : EachFits (IsGoodLine (ids book)) [] (taken m.acts)
+  pub why : IfSome book.tally.broken (BrokeBy (ids book) book.tally.lines book.seen.face.poll m.acts unused)
   pub counted : CountsRecords book.tally.broken book.gate.next (length (all_of book.queue)) m.acts
 
 -- No state that waits may go.
