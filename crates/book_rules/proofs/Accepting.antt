@@ -1,12 +1,11 @@
 -- What a call on the input does is a run of the machine: a line at most, then seals, then releases.
-use Rattle.std.proofs.Common.{arith, ◌≡◌, ◌≢◌, ◌⊎◌, inl, inr, ℕ, ◌+◌, ◌<◌, ◌≤◌, ◌^◌, eqb, get_or, List, [], ◌∷◌, ◌++◌, map, length, Option, None, Some, Bool, true, false, cond, Result, Ok, Err, refl, sym, ◌∙◌, ap, subst, length-append, slice_set}
-use Rattle.std.specs.Prelude.{filter, filter_map, find, nat_lt, not, ◌||◌, IfSome, IsTrue, ◌↔◌, option_to_list, slice_get}
-use Rattle.std.specs.List.{AllByRecursion, list_any, list_all}
+use Rattle.std.proofs.Common.{arith, ◌≡◌, ◌⊎◌, inl, inr, ℕ, ◌+◌, ◌<◌, ◌≤◌, ◌^◌, eqb, get_or, List, [], ◌∷◌, ◌++◌, length, Option, None, Some, Bool, true, false, cond, Result, Ok, Err, refl, sym, ◌∙◌, ap, subst, slice_set}
+use Rattle.std.specs.Prelude.{filter_map, find, nat_lt, IsTrue, ◌↔◌, slice_get}
+use Rattle.std.specs.List.{AllByRecursion}
 use Rattle.std.proofs.lemmas.List.{append-nil, length-set, get_or-set_same, get_or-set_other}
-use Rattle.std.proofs.lemmas.List.Elements.{filter_map-append}
-use Rattle.std.proofs.lemmas.Bool.{cases_Bool, cases_eq, eq-eqb, ne_eqb, false≢true, false_from_ne_true, ltb-false, ltb-true}
+use Rattle.std.proofs.lemmas.Bool.{cases_eq, eq-eqb, ne_eqb, false_from_ne_true, ltb-false, ltb-true}
 use Rattle.std.proofs.lemmas.Option.{slice_get_within, slice_get-get_or}
-use Rattle.basics.specs.Told.{told_by, told_more}
+use Rattle.basics.specs.Told.{told_more}
 use Rattle.basics.specs.declared.stream.StreamId.{StreamId}
 use Rattle.catalog.specs.declared.stream.ConfStream.{ConfStream}
 use Rattle.stream_index.specs.Distinct.{AreDistinct}
@@ -20,51 +19,40 @@ use Rattle.airbyte_message.specs.declared.message.Message.TheVariants as message
 use Rattle.airbyte_message.specs.declared.message.RecordMsg.{RecordMsg}
 use Rattle.airbyte_message.specs.declared.message.TraceMsg.{TraceMsg}
 use Rattle.airbyte_message.specs.declared.stream_status.StreamStatus.{StreamStatus}
-use Rattle.outside.specs.Dock.{DockSeen, dock_events, took_over}
+use Rattle.outside.specs.Dock.{DockSeen, dock_events}
 use Rattle.outside.specs.Tables.{same_id}
 use Rattle.outside.proofs.TableLaws.{id_is}
-use Rattle.outside.specs.declared.event.Event.{Event}
-use Rattle.outside.specs.declared.event.Event.TheVariants.{Took, TookEnd}
+use Rattle.outside.specs.declared.event.Event.TheVariants.{Took}
 use Rattle.outside.specs.declared.fault.Fault.{Fault}
 use Rattle.outside.specs.declared.faults.InputKind.{InputKind}
 use Rattle.outside.specs.declared.faults.InputKind.TheVariants as input
-use Rattle.outside.specs.declared.link.Polled.{Polled}
-use Rattle.outside.specs.declared.link.Polled.TheVariants as polled
 use Rattle.outside.specs.declared.link.PollKind.TheVariants as poll_kind
 use Rattle.outside.specs.declared.status.Status.{Status}
 use Rattle.outside.specs.declared.status.Status.TheVariants as status
-use Rattle.book_queue.specs.Content.{Held, QueueView, all_of, queued, HasRoom, number_below}
-use Rattle.book_queue.specs.Content as queue
-use Rattle.state_gate.specs.Views.{GateView}
+use Rattle.book_queue.specs.Content.{all_of, queued, HasRoom}
 use Rattle.state_gate.specs.declared.pending.Lane.{Lane as GateLane}
 use Rattle.state_gate.specs.declared.pending.Lane.TheVariants as gate_lane
-use Rattle.load_rules.specs.Acts.{Act, Ends, taken, committed, state_echoed}
+use Rattle.load_rules.specs.Acts.{Act, taken, committed, state_echoed}
 use Rattle.load_rules.specs.Finished.{last_status, status_after}
 use Rattle.load_rules.specs.Lines.{Line, Status as Told, record_in, state_in, status_in, status_told}
-use Rattle.load_rules.specs.Machine.{Machine, Placed, Step, Accept, End, Seal, HandOut, Commit, TakeBack, Release, Turn, run, happens, accepts, is_releasable}
-use Rattle.load_rules.specs.Taken.{entries, since}
-use Rattle.load_rules.proofs.Machines.{taken-more, committed-more}
+use Rattle.load_rules.specs.Machine.{Machine, Step, Accept, End, Seal, HandOut, Commit, TakeBack, Release, Turn, run, happens, accepts, is_releasable}
 use Rattle.load_rules.proofs.SafeRuns.{runs_grow}
 use Rattle.book_rules.specs.declared.answer.Accepted.{Accepted}
-use Rattle.book_rules.specs.declared.answer.Accepted.TheVariants as accepted
 use Rattle.book_rules.specs.declared.answer.Lanes.{Lanes}
 use Rattle.book_rules.specs.declared.answer.Lanes.TheVariants as kinds
-use Rattle.book_rules.specs.declared.answer.Tally.{Tally}
 use Rattle.book_rules.specs.Accepts.{AcceptAnswer, AnswersUnless, Breaks, Ends as EndsBook, GoesOn, MakesRoom, Notes, Reads, Refuses, Rests, TakesCounted, TakesFound, TakesLine, TakesMessage, TakesNext, TakesRecord, TakesRecordOf, TakesState, TakesStateBy, TakesStateIn, TakesStateOf, TakesStateUnless, TakesStatus, Unparks, broken_by, fault_of, is_other, lane_fault, state_fault, lanes_of, sealed_by, with_line, with_status}
 use Rattle.book_rules.specs.Accepts as accepts_
-use Rattle.book_rules.specs.Books.{BrokeBy, CountsEchoes, IsAcceptRun, IsBookOf, IsQuiet, IsReleasing, IsSealing, IsTaking, RunsTo, Runs, Tallied, Tells}
-use Rattle.book_rules.specs.Docks.{Polls}
-use Rattle.book_rules.specs.Holds.{Holds, AreHeld, IsLane, is_end, lanes_among, still}
+use Rattle.book_rules.specs.Books.{BrokeBy, CountsEchoes, IsAcceptRun, IsBookOf, IsQuiet, IsReleasing, IsSealing, IsTaking, RunsTo}
+use Rattle.book_rules.specs.Holds.{IsLane, lanes_among}
 use Rattle.book_rules.specs.Releases.{Point, ReleaseAnswer, stop_of}
 use Rattle.book_rules.specs.Views.{BookView, ids}
-use Rattle.book_rules.proofs.Acts.{Adds, Ran, ran_act, ran_still, ran_unused, ends_more, or_false}
-use Rattle.book_rules.proofs.Lists.{all_append}
-use Rattle.book_rules.proofs.Moves.{held_length, number_same}
-use Rattle.book_rules.proofs.Releasing.{LeadsBroken, LeadsQuiet, at_point, broke_at, counts_of_none, few_held, regated, releases_all_lead, releases_some_lead}
+use Rattle.book_rules.proofs.Acts.{ran_still, ran_unused}
+use Rattle.book_rules.proofs.Moves.{number_same}
+use Rattle.book_rules.proofs.Releasing.{at_point, broke_at, counts_of_none, releases_all_lead, releases_some_lead}
 use Rattle.book_rules.proofs.Sealing.{seal_all_leads, seal_full_leads, seal_leads, seal_oldest_leads}
 use Rattle.book_rules.proofs.Stating.{state_whole, took_state}
 use Rattle.book_rules.proofs.Taking.{empty_few, line_as, releasable_as, other_whole, pushed_aside, pushed_in, quiet_line, record_whole, StatusesFit, took_other, took_record, unknown_fault}
-use Rattle.book_rules.proofs.Whole.{IsWhole, Leads, MovesTo, Requeues, book_of_whole, broken_counts, broken_of, whole_counts, leads_on, leads_requeued, whole_of}
+use Rattle.book_rules.proofs.Whole.{IsWhole, Leads, book_of_whole, broken_counts, broken_of, whole_counts}
 
 -- A run of this shape leads to the book.
 pub record Went (shape : List Step → Type 0) (catalog : List ConfStream) (new : BookView) (m : Machine) : Type 0 where

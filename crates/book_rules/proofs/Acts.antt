@@ -1,7 +1,7 @@
 -- A run of the machine, and the trace beside it: one act more, or a line that is not used.
-use Rattle.std.proofs.Common.{arith, ◌≡◌, ◌⊎◌, inl, inr, ℕ, ◌+◌, ◌<◌, ◌≤◌, List, [], ◌∷◌, ◌++◌, map, length, Option, None, Some, Bool, true, false, refl, sym, ◌∙◌, ap, subst, append_assoc, length-append}
+use Rattle.std.proofs.Common.{arith, ◌≡◌, ℕ, ◌+◌, ◌≤◌, List, [], ◌∷◌, ◌++◌, map, length, Option, None, Some, Bool, true, false, refl, sym, ◌∙◌, ap, subst}
 use Rattle.std.specs.Prelude.{filter, fold, not, ◌||◌, IfSome}
-use Rattle.std.specs.List.{AllByRecursion, list_any}
+use Rattle.std.specs.List.{list_any}
 use Rattle.std.proofs.lemmas.List.{append-nil}
 use Rattle.std.proofs.lemmas.List.Folds.{list_any-append}
 use Rattle.std.proofs.lemmas.List.Sums.{fold-append}
@@ -13,12 +13,12 @@ use Rattle.outside.specs.Event.{is_links}
 use Rattle.outside.specs.declared.event.Event.{Event}
 use Rattle.outside.specs.declared.event.Event.TheVariants.{Took}
 use Rattle.load_rules.specs.Acts.{Act, Takes, Ends, Commits, Echoes, Turns, IsAct, AreActs, taken, committed}
-use Rattle.load_rules.specs.Lines.{Reading, IsReading, ReadsEvent}
+use Rattle.load_rules.specs.Lines.{Reading, ReadsEvent}
 use Rattle.load_rules.specs.Loads.{Load, Opening, loads, loads_after, store_events, with_event}
 use Rattle.load_rules.specs.Machine.{Machine, Placed, Step, start, run, happens, is_done, entry_of, BringsOwnRows}
 use Rattle.load_rules.specs.Prefixes.{EachFits, with_first}
 use Rattle.load_rules.specs.SafeDest.{Fits, uncommitted}
-use Rattle.load_rules.specs.Taken.{Entry, entries, is_in}
+use Rattle.load_rules.specs.Taken.{Entry, is_in}
 use Rattle.load_rules.proofs.LoadFronts.{loads-append, goes_on}
 use Rattle.load_rules.proofs.Machines.{IsGood, IsMarked, good_run, good_start, taken-more}
 use Rattle.load_rules.proofs.SafeRuns.{runs_grow, runs_stay_safe}

@@ -1,5 +1,5 @@
 -- Batches that are handed out and taken back, and the calls of a dock in memory, as runs of the machine.
-use Rattle.std.proofs.Common.{arith, ◌≡◌, ℕ, ◌+◌, List, [], ◌∷◌, ◌++◌, length, length-append, Option, None, Some, Bool, true, false, Result, Ok, Err, refl, sym, ◌∙◌, ap, subst}
+use Rattle.std.proofs.Common.{arith, ◌≡◌, ℕ, ◌+◌, List, [], ◌∷◌, ◌++◌, length, length-append, Option, None, Some, Result, Ok, Err, refl, sym, ◌∙◌, ap, subst}
 use Rattle.std.specs.Prelude.{filter, option_map, option_to_list, slice_get}
 use Rattle.std.specs.List.{AllByRecursion}
 use Rattle.std.proofs.lemmas.Option.{slice_get-map}
@@ -7,12 +7,11 @@ use Rattle.basics.specs.declared.stream.StreamId.{StreamId}
 use Rattle.catalog.specs.declared.stream.ConfStream.{ConfStream}
 use Rattle.stream_index.specs.Distinct.{AreDistinct}
 use Rattle.batch_prep.specs.declared.item.WorkItem.{WorkItem}
-use Rattle.outside.specs.Dock.{DockSeen, dock_events}
 use Rattle.outside.specs.declared.status.Status.{Status}
 use Rattle.book_queue.specs.Content as queue
 use Rattle.book_queue.specs.Content.{Held, QueueView, all_of}
 use Rattle.load_rules.specs.Machine.{Machine, Placed, Step, Accept, End, Seal, HandOut, Commit, TakeBack, Release, Turn, happens, hands_out, is_out, run}
-use Rattle.book_rules.specs.Books.{CountsRecords, IsBookOf, IsGiveBackRun, IsNoRun, IsPickRun, IsQuiet, IsRecallRun, IsTakingBack, IsTakingBackOf, Reached, Runs, RunsTo}
+use Rattle.book_rules.specs.Books.{CountsRecords, IsBookOf, IsGiveBackRun, IsPickRun, IsRecallRun, IsTakingBack, IsTakingBackOf, Runs, RunsTo}
 use Rattle.book_rules.specs.Puts.{GiveBackAnswer, PickAnswer, Picks, recalled}
 use Rattle.book_rules.specs.Views.{BookView, ids}
 use Rattle.book_rules.proofs.Accepting.{quiet_as}

@@ -1,8 +1,8 @@
 -- A batch that is committed, and what a put is to the machine.
-use Rattle.std.proofs.Common.{arith, ◌≡◌, ◌⊎◌, inl, inr, ℕ, ◌+◌, ◌<◌, ◌≤◌, eqb, List, [], ◌∷◌, ◌++◌, map, length, Option, None, Some, Bool, true, false, cond, Result, Ok, Err, refl, sym, ◌∙◌, ap, subst, length-append}
-use Rattle.std.specs.Prelude.{filter, filter_map, not, ◌&&◌, ◌||◌, IfSome, option_map, option_to_list, slice_get}
+use Rattle.std.proofs.Common.{arith, ◌≡◌, ◌⊎◌, inl, inr, ℕ, ◌+◌, ◌≤◌, eqb, List, [], ◌∷◌, ◌++◌, map, length, Option, None, Some, Bool, true, false, cond, Result, Ok, Err, refl, sym, ◌∙◌, ap, subst, length-append}
+use Rattle.std.specs.Prelude.{filter, filter_map, not, ◌&&◌, IfSome, option_map, option_to_list, slice_get}
 use Rattle.std.specs.List.{AllByRecursion, list_any}
-use Rattle.std.proofs.lemmas.List.{append-nil, map-append}
+use Rattle.std.proofs.lemmas.List.{append-nil}
 use Rattle.std.proofs.lemmas.List.Elements.{filter-append, filter_map-append}
 use Rattle.std.proofs.lemmas.Bool.{cases_Bool, eq-eqb, false≢true}
 use Rattle.std.proofs.lemmas.Option.{slice_get-map}
@@ -13,7 +13,6 @@ use Rattle.stream_index.specs.Distinct.{AreDistinct}
 use Rattle.airbyte_message.specs.Lanes as lanes
 use Rattle.batch_prep.specs.Items.{Batch}
 use Rattle.outside.specs.Dock.{DockSeen, dock_events}
-use Rattle.outside.specs.Tables.{same_id}
 use Rattle.outside.proofs.TableLaws.{id_own}
 use Rattle.outside.specs.declared.event.Event.{Event}
 use Rattle.outside.specs.declared.event.Event.TheVariants.{Committed}
@@ -31,24 +30,24 @@ use Rattle.state_gate.specs.Views.{GateView}
 use Rattle.load_rules.specs.Acts.{Act, Commits, taken, state_echoed}
 use Rattle.load_rules.specs.Engine.{PlansFit}
 use Rattle.load_rules.specs.Finished.{last_status}
-use Rattle.load_rules.specs.Machine.{Machine, Placed, Step, Commit, Done, run, happens, commits, commits_batch, commits_at, entry_of, have_sequences, in_batch, is_done, is_in_batch, is_of, is_out, move}
+use Rattle.load_rules.specs.Machine.{Machine, Placed, Step, Commit, Done, run, happens, commits, commits_batch, commits_at, have_sequences, in_batch, is_done, is_in_batch, is_of, is_out, move}
 use Rattle.load_rules.specs.SafeDest.{AreRowsOf}
 use Rattle.load_rules.specs.Taken.{Entry, entries, is_in, since}
 use Rattle.load_rules.proofs.Machines.{commit_taken, length-move, numbered_placed, picked, picked_is, seqs}
 use Rattle.book_rules.specs.declared.answer.Put.{Put}
 use Rattle.book_rules.specs.declared.answer.Put.TheVariants as put
 use Rattle.book_rules.specs.Accepts.{broken_by}
-use Rattle.book_rules.specs.Books.{BrokeBy, IsBookOf, IsPutRun, IsReleasing, Runs, Tallied}
+use Rattle.book_rules.specs.Books.{BrokeBy, IsBookOf, IsPutRun, Runs}
 use Rattle.book_rules.specs.Holds.{AreHeld, IsHeld, accepted_of, is_end, lanes_among, still}
-use Rattle.book_rules.specs.Puts.{BreaksPut, BrokenPut, Commits as CommitsBook, CommitsRows, GateCommits, OwnRows, PutAnswer, Stops, seqs_of}
-use Rattle.book_rules.specs.Releases.{Point, ReleaseAnswer, stop_of}
+use Rattle.book_rules.specs.Puts.{BreaksPut, BrokenPut, Commits as CommitsBook, GateCommits, OwnRows, PutAnswer, Stops, seqs_of}
+use Rattle.book_rules.specs.Releases.{Point, ReleaseAnswer}
 use Rattle.book_rules.specs.Views.{BookView, ids}
 use Rattle.book_rules.proofs.Accepting.{Went, broke, broke_still, counts_any, unbroken, went_as, went_runs}
-use Rattle.book_rules.proofs.Acts.{Adds, Ran, ran_act, ends_more, or_false}
-use Rattle.book_rules.proofs.Lists.{all_append, filter_as, filter_map_list, length_filter, some_is}
+use Rattle.book_rules.proofs.Acts.{Ran, ran_act, ends_more, or_false}
+use Rattle.book_rules.proofs.Lists.{filter_as, filter_map_list, length_filter}
 use Rattle.book_rules.proofs.Moves.{done_held, held_in_batch, held_length}
 use Rattle.book_rules.proofs.Putting.{IsOwnPlan, all_filter, all_held, all_own, filter_held, have_is, held_seqs, nil_map, none_passes, plans_alike, rows_of}
-use Rattle.book_rules.proofs.Releasing.{at_point, broke_at, counts_of_none, few_held, releases_all_lead, releases_some_lead}
+use Rattle.book_rules.proofs.Releasing.{at_point, counts_of_none, few_held, releases_all_lead, releases_some_lead}
 use Rattle.book_rules.proofs.Sealing.{and_none, done_not_out}
 use Rattle.book_rules.proofs.Whole.{IsWhole, book_of_whole, broken_of, whole_counts, whole_good, whole_of}
 

@@ -2,14 +2,14 @@
 use Rattle.std.proofs.Common.{◌≡◌, ℕ, List, [], Option, None, Some, Result, Ok, Err, refl, sym, ◌∙◌, ap, subst, length}
 use Rattle.std.specs.Prelude.{IfSome}
 use Rattle.basics.specs.declared.memory.NoMemory.{NoMemory}
-use Rattle.outside.specs.Dock.{DockSeen, TakesFrom, TakesLine, TakesOutput, dock_events, with_hand}
+use Rattle.outside.specs.Dock.{DockSeen, TakesFrom, dock_events, with_hand}
 use Rattle.outside.specs.Hand.{Hand, hand_closed, hand_pushed}
 use Rattle.outside.specs.declared.link.PollKind.{PollKind}
 use Rattle.outside.specs.declared.event.Event.{Event}
 use Rattle.load_rules.specs.Machine.{Machine}
 use Rattle.load_rules.specs.SafeDest.{IsSafeDest}
 use Rattle.load_rules.specs.Bounded.{AreBounded}
-use Rattle.book_rules.specs.Books.{BrokeBy, IsBook, IsBookOf, IsNoRun, KeepsSafe, OwnLoadIsSafe, Runs, RunsTo, Tells}
+use Rattle.book_rules.specs.Books.{BrokeBy, IsBook, IsBookOf, IsNoRun, KeepsSafe, OwnLoadIsSafe, Runs, Tells}
 use Rattle.book_rules.specs.Hands.{PushAnswer, TakeOutputAnswer, closed, with_seen}
 use Rattle.book_rules.specs.Laws.{CloseKeeps, HandKeeps, PushKeeps, TakeOutputKeeps}
 use Rattle.book_rules.specs.Views.{BookView, ids}

@@ -1,20 +1,18 @@
 -- A poll of the input, a record that waits for room, and the call on the input as a whole.
-use Rattle.std.proofs.Common.{arith, ◌≡◌, ◌⊎◌, inl, inr, ℕ, ◌+◌, ◌<◌, ◌≤◌, ◌^◌, List, [], ◌∷◌, ◌++◌, map, length, Option, None, Some, Bool, true, false, cond, refl, sym, ◌∙◌, ap, subst, length-append}
-use Rattle.std.specs.Prelude.{filter_map, not, ◌||◌, IfSome, IsTrue, ◌↔◌, option_to_list, slice_get}
-use Rattle.std.specs.List.{AllByRecursion, list_any}
+use Rattle.std.proofs.Common.{arith, ◌≡◌, inl, inr, ◌+◌, ◌<◌, List, [], ◌∷◌, ◌++◌, map, length, Option, None, Some, Bool, true, false, cond, refl, sym, ◌∙◌, ap, subst, length-append}
+use Rattle.std.specs.Prelude.{filter_map, ◌||◌, IfSome, IsTrue, ◌↔◌, option_to_list, slice_get}
+use Rattle.std.specs.List.{list_any}
 use Rattle.std.proofs.lemmas.List.{append-nil}
 use Rattle.std.proofs.lemmas.List.Elements.{filter_map-append}
-use Rattle.basics.specs.Told.{told_by, told_more}
+use Rattle.basics.specs.Told.{told_more}
 use Rattle.basics.specs.declared.stream.StreamId.{StreamId}
-use Rattle.catalog.specs.declared.stream.ConfStream.{ConfStream}
-use Rattle.catalog.specs.Configured.{AreConfigured}
 use Rattle.stream_index.specs.Distinct.{AreDistinct}
 use Rattle.airbyte_message.specs.Lanes.{Lane}
 use Rattle.airbyte_message.specs.Lanes as lanes
-use Rattle.outside.specs.Dock.{DockFace, DockSeen, TookAdds, dock_events, took_over}
+use Rattle.outside.specs.Dock.{DockFace, DockSeen, TookAdds, dock_events}
 use Rattle.outside.specs.Link.{kind_of}
 use Rattle.outside.specs.declared.event.Event.{Event}
-use Rattle.outside.specs.declared.event.Event.TheVariants.{Took, TookEnd}
+use Rattle.outside.specs.declared.event.Event.TheVariants.{TookEnd}
 use Rattle.outside.specs.declared.faults.InputKind.TheVariants as input
 use Rattle.outside.specs.declared.link.Polled.{Polled}
 use Rattle.outside.specs.declared.link.Polled.TheVariants as polled
@@ -26,21 +24,20 @@ use Rattle.state_gate.specs.declared.pending.Lane.TheVariants as gate_lane
 use Rattle.load_rules.specs.Acts.{Act, Ends, taken, committed, state_echoed}
 use Rattle.load_rules.specs.Finished.{last_status}
 use Rattle.load_rules.specs.Loads.{Opening}
-use Rattle.load_rules.specs.Machine.{Machine, Placed, Step, End, happens, run}
+use Rattle.load_rules.specs.Machine.{Machine, Placed, End, happens}
 use Rattle.load_rules.specs.Taken.{entries, since}
 use Rattle.load_rules.proofs.Machines.{taken-more, committed-more}
 use Rattle.book_rules.specs.declared.answer.Accepted.{Accepted}
-use Rattle.book_rules.specs.declared.answer.Tally.{Tally}
-use Rattle.book_rules.specs.Accepts.{AcceptAnswer, AnswersUnless, Breaks, GoesOn, MakesRoom, Takes, TakesNext, Unparks, sealed_by, unparks}
-use Rattle.book_rules.specs.Books.{BrokeBy, IsAcceptRun, IsBook, IsBookOf, IsQuiet, IsSealing, Runs, Tallied, Tells}
-use Rattle.book_rules.specs.Holds.{AreHeld, IsHeld, accepted_of, is_end, lanes_among, still}
+use Rattle.book_rules.specs.Accepts.{AcceptAnswer, AnswersUnless, Breaks, GoesOn, MakesRoom, Takes, Unparks, sealed_by, unparks}
+use Rattle.book_rules.specs.Books.{BrokeBy, IsAcceptRun, IsBookOf, IsSealing, Runs, Tells}
+use Rattle.book_rules.specs.Holds.{AreHeld, accepted_of, is_end, lanes_among, still}
 use Rattle.book_rules.specs.Views.{BookView, ids}
-use Rattle.book_rules.proofs.Accepting.{Begins, Given, Went, broke, broke_still, quiet_as, releasable_by, unbroken, went_as, went_line, went_none, went_runs, went_sealed}
-use Rattle.book_rules.proofs.Acts.{Adds, Ran, ran_act, ran_still, ends_more}
+use Rattle.book_rules.proofs.Accepting.{Begins, Went, broke, broke_still, releasable_by, went_as, went_line, went_none, went_runs, went_sealed}
+use Rattle.book_rules.proofs.Acts.{ran_act, ran_still, ends_more}
 use Rattle.book_rules.proofs.Lists.{all_append}
 use Rattle.book_rules.proofs.Releasing.{few_held, regated}
 use Rattle.book_rules.proofs.Sealing.{seal_all_leads, seal_full_leads, seal_oldest_leads}
-use Rattle.book_rules.proofs.Whole.{IsWhole, Leads, MovesTo, Requeues, book_of_whole, leads_on, leads_requeued, whole_of}
+use Rattle.book_rules.proofs.Whole.{IsWhole, Leads, book_of_whole, leads_on, leads_requeued, whole_of}
 
 -- The input ends
 

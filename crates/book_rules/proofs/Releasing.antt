@@ -1,10 +1,9 @@
 -- States that are released: each is a step of the machine.
-use Rattle.std.proofs.Common.{arith, ◌≡◌, ◌⊎◌, inl, inr, ℕ, zero, suc, ◌+◌, ◌<◌, ◌≤◌, List, [], ◌∷◌, ◌++◌, map, length, Option, None, Some, Bool, true, false, Result, Ok, Err, refl, sym, ◌∙◌, ap, subst, length-append}
-use Rattle.std.specs.Prelude.{find, filter_map, not, ◌||◌, IfSome, option_map, option_to_list}
+use Rattle.std.proofs.Common.{arith, ◌≡◌, ◌⊎◌, inl, inr, ℕ, zero, suc, ◌+◌, ◌≤◌, List, [], ◌∷◌, ◌++◌, length, Option, None, Some, refl, sym, ◌∙◌, ap, subst, length-append}
+use Rattle.std.specs.Prelude.{find, filter_map, option_map, option_to_list}
 use Rattle.std.specs.List.{AllByRecursion, list_any}
 use Rattle.std.proofs.lemmas.List.Elements.{filter_map-append}
 use Rattle.basics.specs.Told.{told_more}
-use Rattle.basics.specs.declared.stream.StreamId.{StreamId}
 use Rattle.catalog.specs.declared.stream.ConfStream.{ConfStream}
 use Rattle.stream_index.specs.Distinct.{AreDistinct}
 use Rattle.airbyte_message.specs.Echo.{IsEcho}
@@ -32,8 +31,8 @@ use Rattle.load_rules.proofs.Machines.{echo_done, echo_taken}
 use Rattle.load_rules.proofs.SafeRuns.{runs_grow}
 use Rattle.book_rules.specs.declared.answer.Tally.{Tally}
 use Rattle.book_rules.specs.Books.{BrokeBy, CountsEchoes, IsBookOf, IsQuiet, IsReleasing, Tallied}
-use Rattle.book_rules.specs.Holds.{Holds, AreWaiting, IsWaiting, is_end, still, lanes_among}
-use Rattle.book_rules.specs.Releases.{Point, IsEchoOf, TakesHead, Released, ReleasesTo, HasNoHead, ReleasesAll, StopsBy, stop_of, ReleasesSome}
+use Rattle.book_rules.specs.Holds.{AreWaiting, IsWaiting, is_end, still, lanes_among}
+use Rattle.book_rules.specs.Releases.{Point, IsEchoOf, TakesHead, Released, ReleasesTo, ReleasesAll, StopsBy, stop_of, ReleasesSome}
 use Rattle.book_rules.specs.Views.{BookView, ids}
 use Rattle.book_rules.proofs.Acts.{Adds, Ran, ran_act, ran_still, ends_more, or_false}
 use Rattle.book_rules.proofs.Heads.{FoundAlike, clear_is, found_alike, without_alike, rising_fronts, without_shorter}

@@ -1,8 +1,7 @@
 -- Queues that are sealed, batches that are handed out and taken back.
-use Rattle.std.proofs.Common.{arith, ◌≡◌, ◌⊎◌, inl, inr, ℕ, ◌+◌, ◌-◌, ◌<◌, ◌≤◌, eqb, ltb, List, [], ◌∷◌, ◌++◌, map, length, Option, None, Some, Bool, true, false, cond, refl, sym, ◌∙◌, ap, subst, append_assoc, length-append}
-use Rattle.std.specs.Prelude.{filter, not, ◌&&◌, ◌||◌, slice_get, nat_lt, find, IfSome, option_to_list, option_map}
+use Rattle.std.proofs.Common.{arith, ◌≡◌, ◌⊎◌, inl, inr, ℕ, ◌+◌, eqb, List, [], ◌∷◌, ◌++◌, map, length, Option, None, Some, Bool, true, false, cond, refl, sym, ◌∙◌, ap, subst}
+use Rattle.std.specs.Prelude.{filter, not, ◌&&◌, slice_get, nat_lt, IfSome, option_to_list}
 use Rattle.std.specs.List.{AllByRecursion, list_any}
-use Rattle.std.proofs.lemmas.List.{map-append, append-nil}
 use Rattle.std.proofs.lemmas.Bool.{cases_Bool, false≢true, eq-eqb, eqb-true, lt-ltb, ltb-true}
 use Rattle.basics.specs.declared.stream.StreamId.{StreamId}
 use Rattle.catalog.specs.declared.stream.ConfStream.{ConfStream}
@@ -11,15 +10,15 @@ use Rattle.outside.proofs.TableLaws.{id_own}
 use Rattle.stream_index.specs.Distinct.{AreDistinct}
 use Rattle.book_queue.specs.Content.{Held, QueueView, all_of, number_below}
 use Rattle.book_queue.specs.Content as queue
-use Rattle.load_rules.specs.Machine.{Machine, Place, Queued, Sealed, Out, Done, Placed, Step, Seal, HandOut, TakeBack, is_out, is_sealed, is_queued, is_done, is_of, is_queued_of, is_sealed_of, is_in_batch, put_in, move, move_first, happens, run, hands_out}
+use Rattle.load_rules.specs.Machine.{Machine, Place, Queued, Sealed, Out, Done, Placed, Step, Seal, HandOut, TakeBack, is_out, is_sealed, is_queued, is_done, is_of, is_queued_of, is_sealed_of, is_in_batch, move, move_first, happens, run, hands_out}
 use Rattle.load_rules.proofs.Machines.{length-move}
 use Rattle.load_rules.proofs.TakenLists.{all_weaker}
 use Rattle.book_rules.specs.Books.{IsPickRun, IsSealing, IsTakingBack, IsTakingBackOf}
 use Rattle.book_rules.specs.Holds.{IsHeld, AreHeld, place_of, still, accepted_of}
 use Rattle.book_rules.specs.Views.{BookView, ids}
-use Rattle.book_rules.proofs.Lists.{all_append, any_self, any_none}
+use Rattle.book_rules.proofs.Lists.{all_append, any_self}
 use Rattle.book_rules.proofs.Moves.{length_first_placed, move_held, move_first_held, first_whole, first_front, move_front, accepted_move, accepted_first, length_move, length_first, all_move, all_move_first, move_as, move_none, move_twice, move_first_all, held_queued, held_out, held_queued_of, held_sealed_of}
-use Rattle.book_rules.proofs.Whole.{IsWhole, Leads, leads_still, leads_on, MovesTo, Requeues, leads_requeued, whole_requeued}
+use Rattle.book_rules.proofs.Whole.{IsWhole, Leads, leads_still, MovesTo, leads_requeued, whole_requeued}
 
 -- a batch is handed out
 abbrev pub IsPicking : Step → Type 0
@@ -272,16 +271,21 @@ hand_out_leads book m stream id distinct named w =
     let placed = move_first (is_sealed_of id) (Out batch) n m.placed in
     let front = first_front u (queue.Out batch) n book.queue.held (option_to_list book.queue.parked) (parked_sealed stream book.queue.parked w.holds.parked) in
     let moves : MovesTo IsPicking book.catalog m placed = record { steps = HandOut id n batch ∷ []; all = (tt, tt); is = ap (hands_out m id n batch) (no_batch (ids book) batch m.placed (all_of book.queue) w.holds.held (all_append (λ one. number_below batch one.place ≡ true) book.queue.held (option_to_list book.queue.parked) w.holds.fresh (fresh_parked batch book.queue.parked w.holds.parked))) } in
-    record { steps = HandOut id n batch ∷ []; once = tt; all = (tt, tt); leads = whole_requeued IsPicking book m (record (book.queue) { held = queue.move_first u (queue.Out batch) n book.queue.held; next_batch = batch + 1 }) placed w moves (record {
-      long = length_first_placed (is_sealed_of id) (Out batch) n m.placed;
-      accepted = ap (map accepted_of) (sym front) ∙ accepted_first u (queue.Out batch) n (all_of book.queue);
-      held = subst (AreHeld (ids book) (still placed)) front (move_first_held (ids book) (is_sealed_of id) u (queue.Out batch) (λ one done. and_none (is_sealed one.place) (is_of id one) (done_not_sealed one.place done)) (λ one held is. held_sealed_of (ids book) stream id one held distinct named is) n m.placed (all_of book.queue) w.holds.held);
-      streams = refl;
-      next = refl;
-      room = let long = length_first u (queue.Out batch) n book.queue.held in let few = w.holds.room in omega (arith, long, few);
-      slots = refl;
-      bytes = refl;
-      batch = refl;
-      fresh = all_move_first (λ one. number_below (batch + 1) one.place ≡ true) u (queue.Out batch) n book.queue.held (λ one. lt-ltb batch (batch + 1) (omega arith)) (all_weaker (λ one. number_below batch one.place ≡ true) (λ one. number_below (batch + 1) one.place ≡ true) book.queue.held (λ one. below_next batch one.place) w.holds.fresh);
-      parked = w.holds.parked;
-    }) }
+    record {
+      steps = HandOut id n batch ∷ [];
+      once = tt;
+      all = (tt, tt);
+      leads = whole_requeued IsPicking book m (record (book.queue) { held = queue.move_first u (queue.Out batch) n book.queue.held; next_batch = batch + 1 }) placed w moves (record {
+        long = length_first_placed (is_sealed_of id) (Out batch) n m.placed;
+        accepted = ap (map accepted_of) (sym front) ∙ accepted_first u (queue.Out batch) n (all_of book.queue);
+        held = subst (AreHeld (ids book) (still placed)) front (move_first_held (ids book) (is_sealed_of id) u (queue.Out batch) (λ one done. and_none (is_sealed one.place) (is_of id one) (done_not_sealed one.place done)) (λ one held is. held_sealed_of (ids book) stream id one held distinct named is) n m.placed (all_of book.queue) w.holds.held);
+        streams = refl;
+        next = refl;
+        room = let long = length_first u (queue.Out batch) n book.queue.held in let few = w.holds.room in omega (arith, long, few);
+        slots = refl;
+        bytes = refl;
+        batch = refl;
+        fresh = all_move_first (λ one. number_below (batch + 1) one.place ≡ true) u (queue.Out batch) n book.queue.held (λ one. lt-ltb batch (batch + 1) (omega arith)) (all_weaker (λ one. number_below batch one.place ≡ true) (λ one. number_below (batch + 1) one.place ≡ true) book.queue.held (λ one. below_next batch one.place) w.holds.fresh);
+        parked = w.holds.parked;
+      });
+    }

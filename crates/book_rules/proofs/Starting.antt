@@ -1,7 +1,7 @@
 -- A book that is started, and a start that is refused.
-use Rattle.std.proofs.Common.{arith, ◌≡◌, ◌⊎◌, inl, inr, ℕ, ◌+◌, ◌<◌, ◌≤◌, ◌^◌, List, [], ◌∷◌, ◌++◌, map, length, Option, None, Some, Bool, true, false, refl, sym, ◌∙◌, ap, subst, get_or}
-use Rattle.std.specs.Prelude.{IfSome, replicate, slice_get, slice_index, fold}
-use Rattle.std.specs.List.{AllByRecursion, list_any}
+use Rattle.std.proofs.Common.{arith, ◌≡◌, ◌⊎◌, inl, inr, ℕ, ◌+◌, ◌<◌, List, [], ◌∷◌, ◌++◌, length, Option, None, Some, true, false, refl, sym, ◌∙◌, ap, subst}
+use Rattle.std.specs.Prelude.{IfSome, replicate, slice_get}
+use Rattle.std.specs.List.{AllByRecursion}
 use Rattle.std.proofs.lemmas.List.{length-replicate, get_or-replicate}
 use Rattle.std.proofs.lemmas.List.Sums.{fold-append}
 use Rattle.std.proofs.lemmas.Option.{slice_get_within, slice_get-get_or}
@@ -11,7 +11,7 @@ use Rattle.catalog.specs.Configured.{AreConfigured}
 use Rattle.catalog.specs.Reading.{ids_of}
 use Rattle.catalog.specs.declared.stream.ConfStream.{ConfStream}
 use Rattle.airbyte_message.specs.declared.stream_status.StreamStatus.{StreamStatus}
-use Rattle.outside.specs.Dock.{AddsOpened, DockSeen, OpenedAs, dock_events, opening as opening_event, took_over_after}
+use Rattle.outside.specs.Dock.{DockSeen, OpenedAs, dock_events, opening as opening_event, took_over_after}
 use Rattle.outside.specs.Limits.{AreLimits}
 use Rattle.outside.specs.Tables.{tables_of}
 use Rattle.outside.specs.declared.event.Event.{Event}
@@ -25,16 +25,15 @@ use Rattle.state_gate.specs.Content.{nothing_for}
 use Rattle.state_gate.specs.Views.{GateView, Stands}
 use Rattle.load_rules.specs.Bounded.{AreBounded, IsBounded}
 use Rattle.load_rules.specs.Engine.{PlansFit}
-use Rattle.load_rules.specs.Lines.{IsReading, Reading}
+use Rattle.load_rules.specs.Lines.{Reading}
 use Rattle.load_rules.specs.Loads.{Opening, loads}
 use Rattle.load_rules.specs.Machine.{start}
 use Rattle.load_rules.specs.SafeDest.{IsSafeDest}
 use Rattle.load_rules.proofs.LoadFronts.{loads-append, opening_is_safe}
-use Rattle.book_rules.specs.Books.{IsBook, KeepsSafeOf, StaySafe, Tallied, Tells}
-use Rattle.book_rules.specs.Laws.{IsBegun, RefusedKeeps, StartsBegin}
-use Rattle.book_rules.specs.Starts.{ArePlansOf, KeepsDock, OpenedFor, RefusedBy, RefusedFor, Starts}
-use Rattle.book_rules.specs.Views.{BookView, ids}
-use Rattle.book_rules.proofs.Acts.{Ran}
+use Rattle.book_rules.specs.Books.{IsBook, KeepsSafeOf, StaySafe, Tells}
+use Rattle.book_rules.specs.Laws.{RefusedKeeps, StartsBegin}
+use Rattle.book_rules.specs.Starts.{ArePlansOf, OpenedFor, RefusedFor, Starts}
+use Rattle.book_rules.specs.Views.{BookView}
 use Rattle.book_rules.proofs.Lists.{length_of_map, some_is}
 use Rattle.book_rules.proofs.Safe.{own_is_safe}
 use Rattle.book_rules.proofs.Whole.{IsWhole, book_of_whole}

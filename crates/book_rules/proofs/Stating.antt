@@ -1,8 +1,7 @@
 -- A state that is taken.
-use Rattle.std.proofs.Common.{arith, ◌≡◌, ◌⊎◌, inl, inr, ℕ, ◌+◌, ◌<◌, ◌≤◌, ◌^◌, eqb, List, [], ◌∷◌, ◌++◌, map, length, Option, None, Some, Bool, true, false, cond, refl, sym, ◌∙◌, ap, subst, length-append, slice_set}
-use Rattle.std.specs.Prelude.{filter, filter_map, find, fold, not, ◌||◌, IfSome, option_to_list, slice_get, slice_index}
-use Rattle.std.specs.List.{AllByRecursion, list_any}
-use Rattle.std.proofs.lemmas.List.{append-nil, map-append, length-set, get_or-set_same, get_or-set_other}
+use Rattle.std.proofs.Common.{arith, ◌≡◌, ◌⊎◌, inl, inr, ℕ, ◌+◌, ◌<◌, ◌^◌, eqb, List, [], ◌∷◌, ◌++◌, length, Option, None, Some, Bool, false, cond, refl, sym, ◌∙◌, ap, subst, length-append, slice_set}
+use Rattle.std.specs.Prelude.{slice_get, slice_index}
+use Rattle.std.proofs.lemmas.List.{append-nil, length-set, get_or-set_same, get_or-set_other}
 use Rattle.std.proofs.lemmas.Bool.{cases_eq, eq-eqb, ne_eqb, false≢true}
 use Rattle.std.proofs.lemmas.Option.{slice_get_within}
 use Rattle.basics.specs.Told.{told_more}
@@ -13,31 +12,26 @@ use Rattle.airbyte_message.specs.Lanes.{Lane, lane_of}
 use Rattle.airbyte_message.specs.Lanes as lanes
 use Rattle.airbyte_message.specs.Messages.{IsMessage}
 use Rattle.airbyte_message.specs.State.{State}
-use Rattle.airbyte_message.specs.declared.message.Message.{Message}
 use Rattle.airbyte_message.specs.declared.message.Message.TheVariants as message
 use Rattle.outside.specs.Dock.{DockSeen, dock_events}
 use Rattle.outside.specs.Tables.{same_id}
 use Rattle.outside.specs.declared.faults.InputKind.TheVariants as input
-use Rattle.outside.specs.declared.event.Event.{Event}
 use Rattle.outside.specs.declared.event.Event.TheVariants.{Took}
 use Rattle.book_queue.specs.Content.{all_of}
 use Rattle.state_gate.specs.Content.{Content, count_in}
 use Rattle.state_gate.specs.Counts.{without_own, without_all}
-use Rattle.state_gate.specs.Views.{GateView, Stands}
+use Rattle.state_gate.specs.Views.{GateView}
 use Rattle.state_gate.specs.declared.pending.Lane.{Lane as GateLane}
 use Rattle.state_gate.specs.declared.pending.Lane.TheVariants as gate_lane
 use Rattle.state_gate.specs.declared.pending.Waiting.{Waiting}
-use Rattle.load_rules.specs.Acts.{Act, Takes, taken}
-use Rattle.load_rules.specs.Finished.{last_status}
+use Rattle.load_rules.specs.Acts.{Takes, taken}
 use Rattle.load_rules.specs.Lines.{Line}
 use Rattle.load_rules.specs.Machine.{Machine, Placed, accepts}
-use Rattle.load_rules.specs.Taken.{LaneState, entries, since, counts_state, state_of_lane, is_of_lane}
+use Rattle.load_rules.specs.Taken.{LaneState, since, state_of_lane, is_of_lane}
 use Rattle.book_rules.specs.declared.answer.Lanes.{Lanes}
 use Rattle.book_rules.specs.declared.answer.Lanes.TheVariants as kinds
-use Rattle.book_rules.specs.declared.answer.Tally.{Tally}
 use Rattle.book_rules.specs.Accepts.{lane_fault, message_fault, state_fault, GateTakesState, with_last, lanes_of, is_other}
-use Rattle.book_rules.specs.Books.{Tallied}
-use Rattle.book_rules.specs.Holds.{Holds, AreHeld, AreWaiting, IsLane, IsWaiting, lanes_after, lanes_among, lanes_by, still}
+use Rattle.book_rules.specs.Holds.{AreHeld, AreWaiting, IsLane, IsWaiting, lanes_among, lanes_by, still}
 use Rattle.book_rules.specs.Views.{BookView, ids}
 use Rattle.book_rules.proofs.Heads.{waiting_push}
 use Rattle.book_rules.proofs.Moves.{number_same}

@@ -1,15 +1,14 @@
 -- A line that is taken, and used.
-use Rattle.std.proofs.Common.{arith, ◌≡◌, ◌⊎◌, inl, inr, ℕ, zero, suc, ◌+◌, ◌<◌, ◌≤◌, ◌^◌, eqb, List, [], ◌∷◌, ◌++◌, map, length, Option, None, Some, Bool, true, false, cond, refl, sym, ◌∙◌, ap, subst, length-append, slice_set}
-use Rattle.std.specs.Prelude.{filter, filter_map, find, fold, not, ◌||◌, IfSome, option_to_list, slice_get, slice_index}
+use Rattle.std.proofs.Common.{arith, ◌≡◌, ◌⊎◌, inl, inr, ℕ, zero, suc, ◌+◌, ◌<◌, ◌≤◌, ◌^◌, eqb, List, [], ◌∷◌, ◌++◌, map, length, Option, None, Some, true, false, cond, refl, sym, ◌∙◌, ap, subst, length-append, slice_set}
+use Rattle.std.specs.Prelude.{filter_map, find, IfSome, option_to_list, slice_get, slice_index}
 use Rattle.std.specs.List.{AllByRecursion, list_any, list_all}
 use Rattle.std.proofs.lemmas.List.{append-nil, map-append, length-set, get_or-set_same, get_or-set_other}
-use Rattle.std.proofs.lemmas.List.Elements.{filter-append, filter_map-append}
+use Rattle.std.proofs.lemmas.List.Elements.{filter_map-append}
 use Rattle.std.proofs.lemmas.List.Sums.{fold-append}
 use Rattle.std.proofs.lemmas.Bool.{cases_Bool, cases_eq, eq-eqb, ne_eqb, false≢true, false_from_ne_true, or_left, or_right}
 use Rattle.std.proofs.lemmas.Option.{slice_get_within}
 use Rattle.basics.specs.Told.{told_more}
 use Rattle.basics.specs.declared.stream.StreamId.{StreamId}
-use Rattle.catalog.specs.declared.stream.ConfStream.{ConfStream}
 use Rattle.stream_index.specs.Distinct.{AreDistinct}
 use Rattle.json_fields.specs.Answer.{IsAnswer}
 use Rattle.airbyte_message.specs.Lanes.{Lane, lane_of}
@@ -28,26 +27,25 @@ use Rattle.outside.specs.declared.event.Event.{Event}
 use Rattle.outside.specs.declared.event.Event.TheVariants.{Took}
 use Rattle.book_queue.specs.Content.{Held, QueueView, all_of, number_below, queued}
 use Rattle.book_queue.specs.Content as queue
-use Rattle.state_gate.specs.Content.{Content, with_record}
-use Rattle.state_gate.specs.Views.{GateView, Stands}
+use Rattle.state_gate.specs.Content.{with_record}
+use Rattle.state_gate.specs.Views.{GateView}
 use Rattle.load_rules.specs.Acts.{Act, Takes, taken, committed, state_echoed}
 use Rattle.load_rules.specs.Finished.{last_status, status_after}
-use Rattle.load_rules.specs.Lines.{Line, is_known, Reading, ReadsEvent, record_in, state_in, status_in}
+use Rattle.load_rules.specs.Lines.{Line, is_known, record_in, state_in, status_in}
 use Rattle.load_rules.specs.Machine.{Machine, Placed, Step, Accept, accepts, is_done, is_releasable}
 use Rattle.load_rules.specs.Machine as machine
 use Rattle.load_rules.specs.Taken.{Entry, LaneState, entries, entries_from, and_record, state_of, covers, covered, since, counts_record, counts_state, is_in}
-use Rattle.load_rules.proofs.Machines.{taken-more, committed-more, length_placed}
+use Rattle.load_rules.proofs.Machines.{taken-more, committed-more}
 use Rattle.load_rules.proofs.TakenLists.{entries-append}
-use Rattle.book_rules.specs.declared.answer.Lanes.{Lanes}
 use Rattle.book_rules.specs.declared.answer.Tally.{Tally}
-use Rattle.book_rules.specs.Accepts.{GateTakesRecord, fault_of, lane_fault, with_line}
-use Rattle.book_rules.specs.Books.{CountsEchoes, IsQuiet, Tallied}
-use Rattle.book_rules.specs.Holds.{Holds, AreWaiting, IsHeld, AreHeld, accepted_of, is_end, lanes_after, lanes_among, still}
+use Rattle.book_rules.specs.Accepts.{GateTakesRecord, fault_of, lane_fault}
+use Rattle.book_rules.specs.Books.{IsQuiet, Tallied}
+use Rattle.book_rules.specs.Holds.{AreWaiting, IsHeld, AreHeld, accepted_of, is_end, lanes_after, lanes_among, still}
 use Rattle.book_rules.specs.Views.{BookView, ids}
-use Rattle.book_rules.proofs.Acts.{Adds, Ran, ran_act, ends_more, or_false}
+use Rattle.book_rules.proofs.Acts.{Ran, ran_act, ends_more, or_false}
 use Rattle.book_rules.proofs.Lists.{all_append, length_of_map, some_is}
 use Rattle.book_rules.proofs.Moves.{held_length, held_push, number_same, still_more}
-use Rattle.book_rules.proofs.Whole.{IsWhole, whole_good}
+use Rattle.book_rules.proofs.Whole.{IsWhole}
 
 -- Readings
 

@@ -1,21 +1,18 @@
 -- A book that is not broken, and where steps of the machine lead it.
-use Rattle.std.proofs.Common.{arith, ◌≡◌, ◌⊎◌, inl, inr, ℕ, ◌+◌, ◌-◌, ◌<◌, ◌≤◌, List, [], ◌∷◌, ◌++◌, map, length, Option, None, Some, Bool, true, false, refl, sym, ◌∙◌, ap, subst}
-use Rattle.std.specs.Prelude.{find, IfSome, option_to_list}
+use Rattle.std.proofs.Common.{arith, ◌≡◌, inl, ℕ, ◌-◌, ◌≤◌, List, [], ◌++◌, map, length, Option, None, Some, true, refl, sym, ◌∙◌, ap, subst}
+use Rattle.std.specs.Prelude.{IfSome}
 use Rattle.std.specs.List.{AllByRecursion}
-use Rattle.basics.specs.declared.stream.StreamId.{StreamId}
 use Rattle.catalog.specs.declared.stream.ConfStream.{ConfStream}
 use Rattle.outside.specs.Dock.{dock_events}
-use Rattle.outside.specs.declared.event.Event.{Event}
 use Rattle.outside.specs.declared.status.Status.{Status}
 use Rattle.outside.specs.declared.status.Status.TheVariants as status
 use Rattle.book_queue.specs.Content.{Held, QueueView, all_of, number_below}
 use Rattle.book_queue.specs.Content as queue
-use Rattle.load_rules.specs.Acts.{Act, committed, taken}
+use Rattle.load_rules.specs.Acts.{Act, committed}
 use Rattle.load_rules.specs.Machine.{Machine, Placed, Step, start, run}
 use Rattle.load_rules.proofs.Machines.{IsGood}
 use Rattle.load_rules.proofs.SafeRuns.{runs_grow}
-use Rattle.book_rules.specs.declared.answer.Tally.{Tally}
-use Rattle.book_rules.specs.Books.{BrokeBy, CountsCommits, CountsRecords, IsBookOf, IsQuiet, Reached, RunsTo, Tallied}
+use Rattle.book_rules.specs.Books.{BrokeBy, CountsCommits, CountsRecords, IsBookOf, IsQuiet, Reached, Tallied}
 use Rattle.book_rules.specs.Holds.{Holds, AreHeld, accepted_of, still}
 use Rattle.book_rules.specs.Views.{BookView, ids}
 use Rattle.book_rules.proofs.Acts.{Ran, ran_good, ran_moved}
@@ -120,36 +117,36 @@ pub record Requeues (book : BookView) (m : Machine) (now : QueueView) (placed : 
 
 pub whole_requeued : (P : Step → Type 0) (book : BookView) (m : Machine) (now : QueueView) (placed : List Placed) → IsWhole book m → (moves : MovesTo P book.catalog m placed) → Requeues book m now placed → IsWhole (record book { queue = now }) (run book.catalog moves.steps m)
 whole_requeued P book m now placed w moves q =
-  subst (IsWhole (record book { queue = now })) (sym moves.is) (record {
-    ran = ran_moved book.catalog book.opening book.limits.slots m [] (dock_events book.seen) moves.steps placed w.ran moves.is;
-    tallied = w.tallied;
-    holds = record {
-      content = w.holds.content;
-      gate = w.holds.gate;
-      uncommitted = w.holds.uncommitted ∙ sym q.accepted;
-      waiting = w.holds.waiting;
-      as_many = w.holds.as_many;
-      since_own = w.holds.since_own;
-      since_all = w.holds.since_all;
-      gate_streams = w.holds.gate_streams;
-      gate_next = w.holds.gate_next ∙ sym q.long;
-      gate_states = w.holds.gate_states;
-      states = w.holds.states;
-      held = q.held;
-      queue_streams = q.streams ∙ w.holds.queue_streams;
-      queue_next = q.next ∙ (w.holds.queue_next ∙ sym q.long);
-      room = q.room;
-      slots = q.slots ∙ w.holds.slots;
-      bytes = q.bytes ∙ w.holds.bytes;
-      batch = q.batch ∙ w.holds.batch;
-      fresh = q.fresh;
-      parked = q.parked;
-      few = w.holds.few;
-      statuses_many = w.holds.statuses_many;
-      statuses = w.holds.statuses;
-    };
-    whole = w.whole;
-  })
+    subst (IsWhole (record book { queue = now })) (sym moves.is) (record {
+      ran = ran_moved book.catalog book.opening book.limits.slots m [] (dock_events book.seen) moves.steps placed w.ran moves.is;
+      tallied = w.tallied;
+      holds = record {
+        content = w.holds.content;
+        gate = w.holds.gate;
+        uncommitted = w.holds.uncommitted ∙ sym q.accepted;
+        waiting = w.holds.waiting;
+        as_many = w.holds.as_many;
+        since_own = w.holds.since_own;
+        since_all = w.holds.since_all;
+        gate_streams = w.holds.gate_streams;
+        gate_next = w.holds.gate_next ∙ sym q.long;
+        gate_states = w.holds.gate_states;
+        states = w.holds.states;
+        held = q.held;
+        queue_streams = q.streams ∙ w.holds.queue_streams;
+        queue_next = q.next ∙ (w.holds.queue_next ∙ sym q.long);
+        room = q.room;
+        slots = q.slots ∙ w.holds.slots;
+        bytes = q.bytes ∙ w.holds.bytes;
+        batch = q.batch ∙ w.holds.batch;
+        fresh = q.fresh;
+        parked = q.parked;
+        few = w.holds.few;
+        statuses_many = w.holds.statuses_many;
+        statuses = w.holds.statuses;
+      };
+      whole = w.whole;
+    })
 
 pub leads_requeued : (P : Step → Type 0) (book : BookView) (m : Machine) (now : QueueView) (placed : List Placed) → IsWhole book m → MovesTo P book.catalog m placed → Requeues book m now placed → Leads P book.catalog (record book { queue = now }) m
 leads_requeued P book m now placed w moves q = record { steps = moves.steps; all = moves.all; leads = whole_requeued P book m now placed w moves q }
