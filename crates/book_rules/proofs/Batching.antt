@@ -1,7 +1,7 @@
 -- Batches that are handed out and taken back, and the calls of a dock in memory, as runs of the machine.
-use Rattle.std.proofs.Common.{arith, ◌≡◌, ℕ, ◌+◌, List, [], ◌∷◌, ◌++◌, length, length-append, Option, None, Some, Result, Ok, Err, refl, sym, ◌∙◌, ap, subst}
+use Rattle.std.proofs.Common.{true, arith, ◌≡◌, ℕ, ◌+◌, List, [], ◌∷◌, ◌++◌, length, length-append, Option, None, Some, Result, Ok, Err, refl, sym, ◌∙◌, ap, subst}
 use Rattle.std.specs.Prelude.{filter, option_map, option_to_list, slice_get}
-use Rattle.std.specs.List.{AllByRecursion}
+use Rattle.std.specs.List.{AllByRecursion, list_any}
 use Rattle.std.proofs.lemmas.Option.{slice_get-map}
 use Rattle.basics.specs.declared.stream.StreamId.{StreamId}
 use Rattle.catalog.specs.declared.stream.ConfStream.{ConfStream}
@@ -11,7 +11,7 @@ use Rattle.outside.specs.declared.status.Status.{Status}
 use Rattle.book_queue.specs.Content as queue
 use Rattle.book_queue.specs.Content.{Held, QueueView, all_of}
 use Rattle.load_rules.specs.Machine.{Machine, Placed, Step, Accept, End, Seal, HandOut, Commit, TakeBack, Release, Turn, happens, hands_out, is_out, run}
-use Rattle.book_rules.specs.Books.{CountsRecords, IsBookOf, IsGiveBackRun, IsPickRun, IsRecallRun, IsTakingBack, IsTakingBackOf, Runs, RunsTo}
+use Rattle.book_rules.specs.Books.{CountsRecords, IsBookOf, IsGiveBackRun, IsPickRun, IsRecallRun, IsTakingBack, Runs, RunsTo}
 use Rattle.book_rules.specs.Puts.{GiveBackAnswer, PickAnswer, Picks, recalled}
 use Rattle.book_rules.specs.Views.{BookView, ids}
 use Rattle.book_rules.proofs.Accepting.{quiet_as}
@@ -75,16 +75,6 @@ taking_moves (Commit number id batch rows) is = absurd is
 taking_moves Release is = absurd is
 taking_moves Turn is = absurd is
 
-taking_of_moves : (number : ℕ) (step : Step) → IsTakingBackOf number step → IsMoving step
-taking_of_moves number (TakeBack id batch) is = tt
-taking_of_moves number (HandOut id count batch) is = absurd is
-taking_of_moves number (Accept line) is = absurd is
-taking_of_moves number End is = absurd is
-taking_of_moves number (Seal id count) is = absurd is
-taking_of_moves number (Commit n id batch rows) is = absurd is
-taking_of_moves number Release is = absurd is
-taking_of_moves number Turn is = absurd is
-
 same_long : (now held rest : List Held) → length now ≡ length held → length (now ++ rest) ≡ length (held ++ rest)
 same_long now held rest same = let a = length-append now rest in let b = length-append held rest in omega (arith, a, b, same)
 
@@ -138,9 +128,22 @@ pick_runs (Err why) old new distinct answer m is = as_before IsPickRun old new m
 
 -- Batches are taken back
 
-pub give_back_runs : (item : WorkItem) (result : Option WorkItem) (old new : BookView) → GiveBackAnswer item result old new → Runs (IsGiveBackRun item.batch) old new
-give_back_runs item None old new answer m is = runs_as (IsGiveBackRun item.batch) old _ new m answer.1 (requeued_runs (IsGiveBackRun item.batch) (IsTakingBackOf item.batch) old (record (old.queue) { held = queue.move (queue.is_in_batch item.batch) queue.Sealed old.queue.held }) m (same_long (queue.move (queue.is_in_batch item.batch) queue.Sealed old.queue.held) old.queue.held (option_to_list old.queue.parked) (length_move (queue.is_in_batch item.batch) queue.Sealed old.queue.held)) tt (λ steps all. all) (taking_of_moves item.batch) (λ whole. give_back_leads old m item.batch whole) old.tally.broken refl is)
-give_back_runs item (Some back) old new answer m is = as_before (IsGiveBackRun item.batch) old new m tt answer.2 is
+given_back_runs : (item : WorkItem) (old : BookView) (m : Machine) → AreDistinct (ids old) → list_any (queue.is_in_batch item.batch) old.queue.held ≡ true → IsBookOf old m → RunsTo (IsGiveBackRun item.batch) old (record old { queue = record (old.queue) { held = queue.move (queue.is_in_batch item.batch) queue.Sealed old.queue.held } }) m
+given_back_runs item old m distinct some is = at old.tally.broken refl
+  where
+    now : QueueView
+    now = record (old.queue) { held = queue.move (queue.is_in_batch item.batch) queue.Sealed old.queue.held }
+
+    at : (broken : Option Status) → old.tally.broken ≡ broken → RunsTo (IsGiveBackRun item.batch) old (record old { queue = now }) m
+    at (Some stop) broken = record { steps = []; shaped = tt; leads = broken_moved old m now stop (same_long (queue.move (queue.is_in_batch item.batch) queue.Sealed old.queue.held) old.queue.held (option_to_list old.queue.parked) (length_move (queue.is_in_batch item.batch) queue.Sealed old.queue.held)) broken is }
+    at None broken =
+        let l = give_back_leads old m item.batch distinct some (whole_of old m broken is) in
+        let keeps = moves_keep old.catalog l.steps m (all_moving IsTakingBack l.steps taking_moves l.all) in
+        record { steps = l.steps; shaped = l.once; leads = book_of_whole (record old { queue = now }) (run old.catalog l.steps m) l.leads (quiet_as m (run old.catalog l.steps m) keeps.acts keeps.waiting (is.quiet broken)) }
+
+pub give_back_runs : (item : WorkItem) (result : Option WorkItem) (old new : BookView) → AreDistinct (ids old) → GiveBackAnswer item result old new → Runs (IsGiveBackRun item.batch) old new
+give_back_runs item None old new distinct answer m is = runs_as (IsGiveBackRun item.batch) old _ new m answer.1 (given_back_runs item old m distinct answer.0 is)
+give_back_runs item (Some back) old new distinct answer m is = as_before (IsGiveBackRun item.batch) old new m tt answer.2 is
 
 pub recall_runs : (old new : BookView) → new ≡ recalled old → Runs IsRecallRun old new
 recall_runs old new answer m is = runs_as IsRecallRun old (recalled old) new m answer (requeued_runs IsRecallRun IsTakingBack old (record (old.queue) { held = queue.move queue.is_handed_out queue.Sealed old.queue.held }) m (same_long (queue.move queue.is_handed_out queue.Sealed old.queue.held) old.queue.held (option_to_list old.queue.parked) (length_move queue.is_handed_out queue.Sealed old.queue.held)) tt (λ steps all. all) taking_moves (λ whole. recall_leads old m whole) old.tally.broken refl is)

@@ -48,7 +48,7 @@ use Rattle.book_rules.proofs.Lists.{filter_as, filter_map_list, length_filter}
 use Rattle.book_rules.proofs.Moves.{done_held, held_in_batch, held_length}
 use Rattle.book_rules.proofs.Putting.{IsOwnPlan, all_filter, all_held, all_own, filter_held, have_is, held_seqs, nil_map, none_passes, plans_alike, rows_of}
 use Rattle.book_rules.proofs.Releasing.{at_point, counts_of_none, few_held, releases_all_lead, releases_some_lead}
-use Rattle.book_rules.proofs.Sealing.{and_none, done_not_out}
+use Rattle.book_rules.proofs.Sealing.{and_none, batch_done, done_not_out, of_batch, of_one, parked_apart}
 use Rattle.book_rules.proofs.Whole.{IsWhole, book_of_whole, broken_of, whole_counts, whole_good, whole_of}
 
 -- the book with a batch committed, before its releases
@@ -57,25 +57,6 @@ left_in batch held = filter (λ one. not (queue.is_in_batch batch one)) held
 
 abbrev pub committed_book : BookView → ℕ → DockSeen → GateView → BookView
 committed_book book batch seen gate = record book { seen = seen; gate = gate; queue = record (book.queue) { held = left_in batch book.queue.held } }
-
-abbrev of_batch : ℕ → ℕ → Held → Bool
-of_batch batch number one = queue.is_out batch one.place && eqb one.stream number
-
-batch_done : (id : StreamId) (batch : ℕ) (one : Placed) → is_done one.place ≡ true → is_in_batch id batch one ≡ false
-batch_done id batch one done = and_none (is_out batch one.place) (is_of id one) (done_not_out batch one.place done)
-
--- the records of the batch are all of one stream
-of_one : (batch number : ℕ) (held : List Held) → AllByRecursion (λ one. queue.is_in_batch batch one ≡ true → one.stream ≡ number) held → AllByRecursion (λ one. of_batch batch number one ≡ queue.is_in_batch batch one) held
-of_one batch number [] each = tt
-of_one batch number (one ∷ others) each = (at (cases_Bool (queue.is_in_batch batch one)), of_one batch number others each.1)
-  where
-    at : (queue.is_in_batch batch one ≡ true) ⊎ (queue.is_in_batch batch one ≡ false) → of_batch batch number one ≡ queue.is_in_batch batch one
-    at (inl within) = rw (within, eq-eqb one.stream number (each.0 within)) refl
-    at (inr other) = rw other refl
-
-parked_apart : (batch number : ℕ) (parked : Option Held) → IfSome parked (λ one. one.place ≡ queue.Queued) → AllByRecursion (λ one. of_batch batch number one ≡ false) (option_to_list parked)
-parked_apart batch number None is = tt
-parked_apart batch number (Some one) is = (ap (λ place. queue.is_out batch place && eqb one.stream number) is, tt)
 
 filter_none : {A : Type 0} (u : A → Bool) (xs : List A) → AllByRecursion (λ x. u x ≡ false) xs → filter u xs ≡ []
 filter_none u [] none = refl
@@ -225,6 +206,7 @@ commit_whole book m batch number rows id seen gate w b added knows = record {
     batch = w.holds.batch;
     fresh = all_filter (λ one. number_below book.queue.next_batch one.place ≡ true) (λ one. not (queue.is_in_batch batch one)) book.queue.held w.holds.fresh;
     parked = w.holds.parked;
+    alike = λ n. let one = w.holds.alike n in record { stream = one.stream; all = all_filter (λ it. queue.is_in_batch n it ≡ true → it.stream ≡ one.stream) (λ one. not (queue.is_in_batch batch one)) book.queue.held one.all };
     few = w.holds.few;
     statuses_many = w.holds.statuses_many;
     statuses = λ number id named. w.holds.statuses number id named ∙ ap (λ list. Some (last_status id list)) (sym same);

@@ -53,6 +53,7 @@ reseen_of book m seen same poll_is is = record {
     batch = h.batch;
     fresh = h.fresh;
     parked = h.parked;
+    alike = h.alike;
     few = h.few;
     statuses_many = h.statuses_many;
     statuses = h.statuses;

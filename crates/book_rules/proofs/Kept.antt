@@ -71,7 +71,7 @@ pub put_keeps : PutKeeps
 put_keeps done result old new is answer = keeps IsPutRun old new is (put_stays done result old new answer) (committing.put_runs done result old new is.configured.distinct is.planned answer)
 
 pub give_back_keeps : GiveBackKeeps
-give_back_keeps item result old new is answer = keeps (IsGiveBackRun item.batch) old new is (give_back_stays item result old new answer) (batching.give_back_runs item result old new answer)
+give_back_keeps item result old new is answer = keeps (IsGiveBackRun item.batch) old new is (give_back_stays item result old new answer) (batching.give_back_runs item result old new is.configured.distinct answer)
 
 pub recall_keeps : RecallKeeps
 recall_keeps old new is answer = keeps IsRecallRun old new is (recall_stays old new answer) (batching.recall_runs old new answer)

@@ -36,7 +36,7 @@ use Rattle.book_rules.proofs.Accepting.{Begins, Went, broke, broke_still, releas
 use Rattle.book_rules.proofs.Acts.{ran_act, ran_still, ends_more}
 use Rattle.book_rules.proofs.Lists.{all_append}
 use Rattle.book_rules.proofs.Releasing.{few_held, regated}
-use Rattle.book_rules.proofs.Sealing.{seal_all_leads, seal_full_leads, seal_oldest_leads}
+use Rattle.book_rules.proofs.Sealing.{alike_push, seal_all_leads, seal_full_leads, seal_oldest_leads}
 use Rattle.book_rules.proofs.Whole.{IsWhole, Leads, book_of_whole, leads_on, leads_requeued, whole_of}
 
 -- The input ends
@@ -88,6 +88,7 @@ end_whole book m seen w not_yet adds = record {
     batch = w.holds.batch;
     fresh = w.holds.fresh;
     parked = w.holds.parked;
+    alike = w.holds.alike;
     few = w.holds.few;
     statuses_many = w.holds.statuses_many;
     statuses = λ number id named. w.holds.statuses number id named ∙ ap (λ list. Some (last_status id list)) (sym same);
@@ -127,6 +128,7 @@ reseen book m seen same w = record {
     batch = w.holds.batch;
     fresh = w.holds.fresh;
     parked = w.holds.parked;
+    alike = w.holds.alike;
     few = w.holds.few;
     statuses_many = w.holds.statuses_many;
     statuses = w.holds.statuses;
@@ -177,6 +179,7 @@ unparked_leads book m one w is room =
       batch = refl;
       fresh = all_append (λ it. number_below book.queue.next_batch it.place ≡ true) book.queue.held (one ∷ []) w.holds.fresh (ap (number_below book.queue.next_batch) (place_queued book.queue.parked one is w.holds.parked), tt);
       parked = tt;
+      alike = λ n. alike_push n book.queue.held one (place_queued book.queue.parked one is w.holds.parked) (w.holds.alike n);
     })
 
 went_unparks : (book : BookView) (m : Machine) (one : Held) (result : Accepted) (new : BookView) → Begins book m → book.queue.parked ≡ Some one → Unparks one result book new → Went IsAcceptRun book.catalog new m

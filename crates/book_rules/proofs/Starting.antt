@@ -122,6 +122,7 @@ fresh_whole streams limits seen opening gate stands streams_is next states told 
     batch = refl;
     fresh = tt;
     parked = tt;
+    alike = λ number. record { stream = 0; all = tt };
     few = omega arith;
     statuses_many = length-replicate (length streams) absent ∙ sym (ids_long streams);
     statuses = λ number id named. none_status (length streams) number (number_low streams number id named);

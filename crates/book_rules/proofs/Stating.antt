@@ -115,6 +115,7 @@ state_whole book m seen gate text state lane own kind distinct w empty answer la
     batch = w.holds.batch;
     fresh = w.holds.fresh;
     parked = w.holds.parked;
+    alike = w.holds.alike;
     few = few;
     statuses_many = w.holds.statuses_many;
     statuses = λ number id named. w.holds.statuses number id named ∙ ap (λ it. Some it) (sym (status_line id m.acts line));

@@ -45,6 +45,7 @@ use Rattle.book_rules.specs.Views.{BookView, ids}
 use Rattle.book_rules.proofs.Acts.{Ran, ran_act, ends_more, or_false}
 use Rattle.book_rules.proofs.Lists.{all_append, length_of_map, some_is}
 use Rattle.book_rules.proofs.Moves.{held_length, held_push, number_same, still_more}
+use Rattle.book_rules.proofs.Sealing.{alike_push}
 use Rattle.book_rules.proofs.Whole.{IsWhole}
 
 -- Readings
@@ -203,6 +204,7 @@ pub record IsPushed (one : Held) (next slots : ℕ) (old new : QueueView) : Type
   pub batch : new.batch ≡ old.batch
   pub fresh : AllByRecursion (λ it. number_below new.next_batch it.place ≡ true) new.held
   pub parked : IfSome new.parked (λ it. it.place ≡ queue.Queued)
+  pub alike : (number : ℕ) → queue.IsOfOneStream number new.held
 
 -- in its place
 pub pushed_in : (book : BookView) (m : Machine) (seq stream : ℕ) (text : List ℕ) → IsWhole book m → book.queue.parked ≡ None → length book.queue.held < book.limits.slots → IsPushed (queued seq stream text) (seq + 1) book.limits.slots book.queue (record (book.queue) { held = book.queue.held ++ queued seq stream text ∷ []; next = seq + 1 })
@@ -216,6 +218,7 @@ pushed_in book m seq stream text w empty room = record {
   batch = refl;
   fresh = all_append (λ it. number_below book.queue.next_batch it.place ≡ true) book.queue.held (queued seq stream text ∷ []) w.holds.fresh (refl, tt);
   parked = w.holds.parked;
+  alike = λ n. alike_push n book.queue.held (queued seq stream text) refl (w.holds.alike n);
 }
 
 -- or parked
@@ -230,6 +233,7 @@ pushed_aside book m seq stream text w empty = record {
   batch = refl;
   fresh = w.holds.fresh;
   parked = refl;
+  alike = w.holds.alike;
 }
 
 abbrev pub took_record : BookView → DockSeen → GateView → QueueView → BookView
@@ -260,6 +264,7 @@ record_whole book m seen gate now text content stream distinct w empty answer na
     batch = pushed.batch ∙ w.holds.batch;
     fresh = pushed.fresh;
     parked = pushed.parked;
+    alike = pushed.alike;
     few = few;
     statuses_many = w.holds.statuses_many;
     statuses = λ number id own. w.holds.statuses number id own ∙ ap (λ last. Some last) (sym (status_line id m.acts line));
@@ -315,6 +320,7 @@ other_whole book m seen statuses text found w empty answer no_record no_state fi
     batch = w.holds.batch;
     fresh = w.holds.fresh;
     parked = w.holds.parked;
+    alike = w.holds.alike;
     few = few;
     statuses_many = many;
     statuses = λ number id own. fit number id own ∙ ap (λ last. Some last) (sym (status_line id m.acts line));

@@ -114,6 +114,7 @@ pub record Requeues (book : BookView) (m : Machine) (now : QueueView) (placed : 
   pub batch : now.batch ≡ book.queue.batch
   pub fresh : AllByRecursion (λ one. number_below now.next_batch one.place ≡ true) now.held
   pub parked : IfSome now.parked (λ one. one.place ≡ queue.Queued)
+  pub alike : (number : ℕ) → queue.IsOfOneStream number now.held
 
 pub whole_requeued : (P : Step → Type 0) (book : BookView) (m : Machine) (now : QueueView) (placed : List Placed) → IsWhole book m → (moves : MovesTo P book.catalog m placed) → Requeues book m now placed → IsWhole (record book { queue = now }) (run book.catalog moves.steps m)
 whole_requeued P book m now placed w moves q =
@@ -141,6 +142,7 @@ whole_requeued P book m now placed w moves q =
         batch = q.batch ∙ w.holds.batch;
         fresh = q.fresh;
         parked = q.parked;
+        alike = q.alike;
         few = w.holds.few;
         statuses_many = w.holds.statuses_many;
         statuses = w.holds.statuses;

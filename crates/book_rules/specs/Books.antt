@@ -183,7 +183,7 @@ abbrev pub KeepsSafe : BookView → BookView → Type 0
 KeepsSafe old new = KeepsSafeOf old.catalog (old.limits.slots + 1) old.seen new.seen
 
 -- What a call is to the machine: accept takes at most once, then seals, then releases; pick hands out at most once; put is one commit
--- with its releases; a batch is taken back by its number; recall takes back.
+-- with its releases; give_back takes the batch back by its number; recall takes back.
 abbrev pub IsTaking : Step → Type 0
 IsTaking (Accept line) = Unit {0}
 IsTaking End = Unit {0}
@@ -200,10 +200,6 @@ IsReleasing step = ⊥
 abbrev pub IsTakingBack : Step → Type 0
 IsTakingBack (TakeBack id batch) = Unit {0}
 IsTakingBack step = ⊥
-
-abbrev pub IsTakingBackOf : ℕ → Step → Type 0
-IsTakingBackOf number (TakeBack id batch) = batch ≡ number
-IsTakingBackOf number step = ⊥
 
 pub record IsAcceptRun (steps : List Step) : Type 0 where
   pub takes : List Step
@@ -226,7 +222,9 @@ IsPutRun (Commit number id batch rows ∷ frees) = AllByRecursion IsReleasing fr
 IsPutRun steps = ⊥
 
 abbrev pub IsGiveBackRun : ℕ → List Step → Type 0
-IsGiveBackRun number steps = AllByRecursion (IsTakingBackOf number) steps
+IsGiveBackRun number [] = Unit {0}
+IsGiveBackRun number (TakeBack id batch ∷ []) = batch ≡ number
+IsGiveBackRun number steps = ⊥
 
 abbrev pub IsRecallRun : List Step → Type 0
 IsRecallRun steps = AllByRecursion IsTakingBack steps

@@ -13,7 +13,7 @@ use Rattle.state_gate.specs.declared.pending.Accepted.{Accepted}
 use Rattle.state_gate.specs.declared.pending.Lane.{Lane as GateLane}
 use Rattle.state_gate.specs.declared.pending.Lane.TheVariants as gate_lane
 use Rattle.state_gate.specs.declared.pending.Waiting.{Waiting}
-use Rattle.book_queue.specs.Content.{Held, all_of, number_below}
+use Rattle.book_queue.specs.Content.{Held, IsOfOneStream, all_of, number_below}
 use Rattle.book_queue.specs.Content as queue_place
 use Rattle.load_rules.specs.Lines.{Line, state_in}
 use Rattle.load_rules.specs.Taken.{LaneState, entries, since, count_of}
@@ -115,6 +115,7 @@ pub record Holds (book : BookView) (m : Machine) : Type 0 where
   pub bytes : book.queue.bytes ≡ book.limits.bytes
   pub batch : book.queue.batch ≡ book.limits.batch
   pub fresh : AllByRecursion (λ one. number_below book.queue.next_batch one.place ≡ true) book.queue.held
+  pub alike : (number : ℕ) → IsOfOneStream number book.queue.held
   pub parked : IfSome book.queue.parked (λ one. one.place ≡ queue_place.Queued)
   -- the lines
   pub few : book.tally.lines < 2 ^ 32
