@@ -228,3 +228,6 @@ recall_own old new is answer = (recall_keeps old new is answer).own
 
 pub recall_safe : (old new : BookView) → IsBook old → new ≡ recalled old → KeepsSafe old new
 recall_safe old new is answer = (recall_keeps old new is answer).safe
+
+pub book_streams : (book : BookView) → IsBook book → book.queue.streams ≡ length book.catalog
+book_streams book is = is.queue_streams

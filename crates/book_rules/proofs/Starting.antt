@@ -30,7 +30,7 @@ use Rattle.load_rules.specs.Loads.{Opening, loads}
 use Rattle.load_rules.specs.Machine.{start}
 use Rattle.load_rules.specs.SafeDest.{IsSafeDest}
 use Rattle.load_rules.proofs.LoadFronts.{loads-append, opening_is_safe}
-use Rattle.book_rules.specs.Books.{IsBook, KeepsSafeOf, StaySafe, Tells}
+use Rattle.book_rules.specs.Books.{IsBook, KeepsSafeOf, OwnLoadIsSafe, StaySafe, Tells}
 use Rattle.book_rules.specs.Laws.{RefusedKeeps, StartsBegin}
 use Rattle.book_rules.specs.Starts.{ArePlansOf, OpenedFor, RefusedFor, Starts}
 use Rattle.book_rules.specs.Views.{BookView}
@@ -187,3 +187,9 @@ started_book streams limits before book configured limits_are s = (starts_begin 
 
 pub started_safe : (streams : List ConfStream) (limits : Limits) (before : DockSeen) (book : BookView) → AreConfigured streams → AreLimits limits → Starts streams limits before book → KeepsSafeOf book.catalog (book.limits.slots + 1) before book.seen
 started_safe streams limits before book configured limits_are s = (starts_begin streams limits before book configured limits_are s).safe
+
+pub started_own : (streams : List ConfStream) (limits : Limits) (before : DockSeen) (book : BookView) → AreConfigured streams → AreLimits limits → Starts streams limits before book → OwnLoadIsSafe book
+started_own streams limits before book configured limits_are s = (starts_begin streams limits before book configured limits_are s).own
+
+pub refused_safe : (stop : Status) (streams : List ConfStream) (most : ℕ) (before now : DockSeen) → RefusedBy stop streams before now → KeepsSafeOf streams most before now
+refused_safe stop streams most before now r = refused_keeps stop streams most before now r
