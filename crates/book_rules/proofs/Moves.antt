@@ -1,18 +1,17 @@
 -- Places: what a move in the queue is in the machine.
-use Rattle.std.proofs.Common.{arith, ◌≡◌, ◌⊎◌, inl, inr, ℕ, ◌+◌, ◌-◌, ◌<◌, ◌≤◌, eqb, ltb, List, [], ◌∷◌, ◌++◌, map, length, Option, None, Some, Bool, true, false, cond, refl, sym, ◌∙◌, ap, subst, append_assoc, length-append}
+use Rattle.std.proofs.Common.{arith, ◌≡◌, ◌⊎◌, inl, inr, ℕ, ◌-◌, ◌≤◌, eqb, List, [], ◌∷◌, ◌++◌, map, length, Some, Bool, true, false, cond, refl, sym, ◌∙◌, ap}
 use Rattle.std.specs.Prelude.{filter, not, ◌&&◌, ◌||◌, slice_get, nat_lt}
-use Rattle.std.specs.List.{AllByRecursion, list_any}
+use Rattle.std.specs.List.{AllByRecursion}
 use Rattle.std.proofs.lemmas.List.Elements.{filter-append}
-use Rattle.std.proofs.lemmas.Bool.{and_parts, cases_Bool, cases_eq, eq-eqb, ne_eqb, eqb-true, false≢true, false_from_ne_true, lt-ltb}
+use Rattle.std.proofs.lemmas.Bool.{cases_Bool, cases_eq, eq-eqb, ne_eqb, false_from_ne_true, lt-ltb}
 use Rattle.basics.specs.declared.stream.StreamId.{StreamId}
 use Rattle.outside.specs.Tables.{same_id}
 use Rattle.outside.proofs.TableLaws.{id_own, id_is}
 use Rattle.stream_index.specs.Distinct.{AreDistinct}
 use Rattle.book_queue.specs.Content.{Held}
 use Rattle.book_queue.specs.Content as queue
-use Rattle.state_gate.specs.declared.pending.Accepted.{Accepted}
 use Rattle.load_rules.specs.Taken.{Entry}
-use Rattle.load_rules.specs.Machine.{queue as queue_of, Place, Queued, Sealed, Out, Done, Placed, is_out, is_sealed, is_queued, is_done, is_of, is_queued_of, is_sealed_of, is_in_batch, put_in, move, move_first, entry_of}
+use Rattle.load_rules.specs.Machine.{queue as queue_of, Place, Done, Placed, is_out, is_sealed, is_queued, is_done, is_of, is_queued_of, is_sealed_of, is_in_batch, put_in, move, move_first}
 use Rattle.book_rules.specs.Holds.{IsHeld, AreHeld, place_of, still, accepted_of}
 use Rattle.book_rules.proofs.Lists.{some_is}
 

@@ -1,11 +1,8 @@
 -- What each call leaves as it was, and what it moves in the dock.
-use Rattle.std.proofs.Common.{◌≡◌, ◌⊎◌, inl, inr, ℕ, zero, suc, List, [], ◌∷◌, ◌++◌, length, Option, None, Some, Bool, true, false, cond, Result, Ok, Err, refl, sym, ◌∙◌, ap, subst, append_assoc}
+use Rattle.std.proofs.Common.{◌≡◌, inl, inr, ℕ, zero, suc, List, ◌++◌, length, Option, None, Some, Bool, true, false, Result, Ok, Err, refl, sym, ◌∙◌, ap, subst, append_assoc}
 use Rattle.std.specs.Prelude.{◌+◌, ◌≤◌, ◌^◌, filter_map, nat_lt}
-use Rattle.std.specs.List.{AllByRecursion}
 use Rattle.std.proofs.lemmas.List.Elements.{filter_map-append}
-use Rattle.basics.specs.Told.{told_more}
 use Rattle.basics.specs.declared.limits.TheConstants.{LONGEST_LINE}
-use Rattle.catalog.specs.declared.stream.ConfStream.{ConfStream}
 use Rattle.airbyte_message.specs.Lanes.{Lane, lane_of}
 use Rattle.airbyte_message.specs.Lanes as lanes
 use Rattle.airbyte_message.specs.State.{State}
@@ -31,16 +28,15 @@ use Rattle.book_queue.specs.Content.{Held, QueueView}
 use Rattle.state_gate.specs.declared.pending.Lane.{Lane as GateLane}
 use Rattle.state_gate.specs.declared.pending.Lane.TheVariants as gate_lane
 use Rattle.load_rules.specs.Lines.{Status as Told, status_told}
-use Rattle.load_rules.specs.Loads.{Opening}
 use Rattle.book_rules.specs.declared.answer.Accepted.{Accepted}
 use Rattle.book_rules.specs.declared.answer.Lanes.{Lanes}
 use Rattle.book_rules.specs.declared.answer.Put.{Put}
 use Rattle.book_rules.specs.declared.answer.Put.TheVariants as put
-use Rattle.book_rules.specs.Accepts.{AcceptAnswer, AnswersUnless, Breaks, GoesOn, MakesRoom, Notes, Reads, Takes, TakesCounted, TakesFound, TakesLine, TakesMessage, TakesNext, TakesRecord, TakesRecordOf, TakesState, TakesStateBy, TakesStateIn, TakesStateOf, TakesStateUnless, TakesStatus, Unparks, is_other, lanes_of, pushed, sealed_by, unparks, with_line}
+use Rattle.book_rules.specs.Accepts.{AcceptAnswer, AnswersUnless, Breaks, GoesOn, Notes, Takes, TakesCounted, TakesFound, TakesLine, TakesMessage, TakesRecord, TakesRecordOf, TakesState, TakesStateBy, TakesStateIn, TakesStateOf, TakesStateUnless, TakesStatus, Unparks, is_other, lanes_of, pushed, sealed_by, unparks, with_line}
 use Rattle.book_rules.specs.Books.{IsSmall}
 use Rattle.book_rules.specs.Docks.{Emits, Polls}
-use Rattle.book_rules.specs.Puts.{BreaksPut, BrokenPut, Commits, CommitsRows, GiveBackAnswer, PickAnswer, Picks, PutAnswer, Stops, recalled}
-use Rattle.book_rules.specs.Releases.{Point, ReleaseAnswer, Released, ReleasesAll, ReleasesSome, ReleasesTo, StopsBy}
+use Rattle.book_rules.specs.Puts.{BreaksPut, BrokenPut, Commits, CommitsRows, GiveBackAnswer, PickAnswer, PutAnswer, Stops, recalled}
+use Rattle.book_rules.specs.Releases.{Point, ReleaseAnswer, ReleasesTo, StopsBy}
 use Rattle.book_rules.specs.Views.{BookView}
 
 -- Moves in a row

@@ -1,7 +1,7 @@
 -- A book that is started, and a start that is refused.
-use Rattle.std.proofs.Common.{arith, ◌≡◌, ◌⊎◌, inl, inr, ℕ, ◌+◌, ◌<◌, ◌≤◌, ◌^◌, List, [], ◌∷◌, ◌++◌, map, length, Option, None, Some, Bool, true, false, refl, sym, ◌∙◌, ap, subst, get_or}
-use Rattle.std.specs.Prelude.{IfSome, replicate, slice_get, slice_index, fold}
-use Rattle.std.specs.List.{AllByRecursion, list_any}
+use Rattle.std.proofs.Common.{arith, ◌≡◌, ◌⊎◌, inl, inr, ℕ, ◌+◌, ◌<◌, List, [], ◌∷◌, ◌++◌, length, Option, None, Some, true, false, refl, sym, ◌∙◌, ap, subst}
+use Rattle.std.specs.Prelude.{IfSome, replicate, slice_get}
+use Rattle.std.specs.List.{AllByRecursion}
 use Rattle.std.proofs.lemmas.List.{length-replicate, get_or-replicate}
 use Rattle.std.proofs.lemmas.List.Sums.{fold-append}
 use Rattle.std.proofs.lemmas.Option.{slice_get_within, slice_get-get_or}
@@ -11,7 +11,7 @@ use Rattle.catalog.specs.Configured.{AreConfigured}
 use Rattle.catalog.specs.Reading.{ids_of}
 use Rattle.catalog.specs.declared.stream.ConfStream.{ConfStream}
 use Rattle.airbyte_message.specs.declared.stream_status.StreamStatus.{StreamStatus}
-use Rattle.outside.specs.Dock.{AddsOpened, DockSeen, OpenedAs, dock_events, opening as opening_event, took_over_after}
+use Rattle.outside.specs.Dock.{DockSeen, OpenedAs, dock_events, opening as opening_event, took_over_after}
 use Rattle.outside.specs.Limits.{AreLimits}
 use Rattle.outside.specs.Tables.{tables_of}
 use Rattle.outside.specs.declared.event.Event.{Event}
@@ -25,16 +25,15 @@ use Rattle.state_gate.specs.Content.{nothing_for}
 use Rattle.state_gate.specs.Views.{GateView, Stands}
 use Rattle.load_rules.specs.Bounded.{AreBounded, IsBounded}
 use Rattle.load_rules.specs.Engine.{PlansFit}
-use Rattle.load_rules.specs.Lines.{IsReading, Reading}
+use Rattle.load_rules.specs.Lines.{Reading}
 use Rattle.load_rules.specs.Loads.{Opening, loads}
 use Rattle.load_rules.specs.Machine.{start}
 use Rattle.load_rules.specs.SafeDest.{IsSafeDest}
 use Rattle.load_rules.proofs.LoadFronts.{loads-append, opening_is_safe}
-use Rattle.book_rules.specs.Books.{IsBook, KeepsSafeOf, StaySafe, Tallied, Tells}
-use Rattle.book_rules.specs.Laws.{IsBegun, RefusedKeeps, StartsBegin}
-use Rattle.book_rules.specs.Starts.{ArePlansOf, KeepsDock, OpenedFor, RefusedBy, RefusedFor, Starts}
-use Rattle.book_rules.specs.Views.{BookView, ids}
-use Rattle.book_rules.proofs.Acts.{Ran}
+use Rattle.book_rules.specs.Books.{IsBook, KeepsSafeOf, OwnLoadIsSafe, StaySafe, Tells}
+use Rattle.book_rules.specs.Laws.{RefusedKeeps, StartsBegin}
+use Rattle.book_rules.specs.Starts.{ArePlansOf, OpenedFor, RefusedFor, Starts}
+use Rattle.book_rules.specs.Views.{BookView}
 use Rattle.book_rules.proofs.Lists.{length_of_map, some_is}
 use Rattle.book_rules.proofs.Safe.{own_is_safe}
 use Rattle.book_rules.proofs.Whole.{IsWhole, book_of_whole}
@@ -100,7 +99,7 @@ number_low streams number id named = let lt = slice_get_within (ids_of streams) 
 
 fresh_whole : (streams : List ConfStream) (limits : Limits) (seen : DockSeen) (opening : Opening) (gate : GateView) → Stands (nothing_for (length streams)) gate → gate.streams ≡ length streams → gate.next ≡ 0 → gate.states ≡ 0 → IfSome (dock_events seen) (Tells opening [] []) → IsWhole (fresh_book streams limits seen opening gate) start
 fresh_whole streams limits seen opening gate stands streams_is next states told = record {
-  ran = record { steps = []; runs = refl; safe = tt; bounded = tt; unused_are = tt; told = told };
+  ran = record { steps = []; runs = refl; safe = tt; bounded = tt; good = tt; unused_are = tt; told = told };
   tallied = record { lines = refl; most = omega arith; records = next; lanes = refl; emitted = refl; ended = refl };
   holds = record {
     content = nothing_for (length streams);
@@ -123,6 +122,7 @@ fresh_whole streams limits seen opening gate stands streams_is next states told 
     batch = refl;
     fresh = tt;
     parked = tt;
+    alike = λ number. record { stream = 0; all = tt };
     few = omega arith;
     statuses_many = length-replicate (length streams) absent ∙ sym (ids_long streams);
     statuses = λ number id named. none_status (length streams) number (number_low streams number id named);
@@ -187,3 +187,9 @@ started_book streams limits before book configured limits_are s = (starts_begin 
 
 pub started_safe : (streams : List ConfStream) (limits : Limits) (before : DockSeen) (book : BookView) → AreConfigured streams → AreLimits limits → Starts streams limits before book → KeepsSafeOf book.catalog (book.limits.slots + 1) before book.seen
 started_safe streams limits before book configured limits_are s = (starts_begin streams limits before book configured limits_are s).safe
+
+pub started_own : (streams : List ConfStream) (limits : Limits) (before : DockSeen) (book : BookView) → AreConfigured streams → AreLimits limits → Starts streams limits before book → OwnLoadIsSafe book
+started_own streams limits before book configured limits_are s = (starts_begin streams limits before book configured limits_are s).own
+
+pub refused_safe : (stop : Status) (streams : List ConfStream) (most : ℕ) (before now : DockSeen) → RefusedBy stop streams before now → KeepsSafeOf streams most before now
+refused_safe stop streams most before now r = refused_keeps stop streams most before now r
