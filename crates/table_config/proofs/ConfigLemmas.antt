@@ -1,7 +1,6 @@
 -- What the parts of a configuration's text say: each has at most one reading.
-use Rattle.std.proofs.Common.{◌≡◌, ◌≢◌, ◌∙◌, inl, inr, ℕ, ◌<◌, ◌≤◌, List, Option, None, Some, Result, Ok, Err, IfOk, IfErr, codes, refl, sym, subst, arith}
+use Rattle.std.proofs.Common.{◌≡◌, ◌≢◌, ◌∙◌, inl, inr, ℕ, ◌<◌, ◌≤◌, List, Option, None, Result, Ok, Err, IfOk, IfErr, codes, refl, sym, subst, arith}
 use Rattle.std.specs.List.{AllZip}
-use Rattle.json_scalar.specs.Text.{IsString}
 use Rattle.json_span.specs.Members.{AreMembers, text_at}
 use Rattle.json_span.specs.Elements.{AreElements}
 use Rattle.json_span.specs.declared.Member.{Member}
@@ -14,7 +13,7 @@ use Rattle.outside.specs.declared.faults.ConfigFault.{ConfigFault}
 use Rattle.outside.specs.declared.faults.ConfigFault.TheVariants as fault
 use Rattle.table_config.specs.Config.{HasParts, HasSchema, IsEntry, IsEvery, IsInRange, IsObject, IsPart, ReadsConfig, ReadsParts}
 use Rattle.table_config.specs.Tables.{firsts}
-use Rattle.table_config.specs.declared.config.TheConstants.{DEEPEST_SCHEMA, MOST_EVERY, USUAL_EVERY}
+use Rattle.table_config.specs.declared.config.TheConstants.{DEEPEST_SCHEMA, MOST_EVERY}
 use Rattle.table_config.specs.declared.config.TableConfig.{TableConfig}
 use Rattle.table_config.specs.declared.config.TableEntry.{TableEntry}
 use Rattle.table_config.specs.declared.read.ConfigParts.{ConfigParts}

@@ -1,5 +1,5 @@
 -- Tables by name.
-use Rattle.std.proofs.Common.{◌≡◌, ◌∙◌, ℕ, zero, suc, ◌<◌, List, [], ◌∷◌, ◌++◌, map, length, slice_get, Bool, true, false, cond, ◌||◌, Option, None, Some, IfNone, is_some, refl, sym, ap, subst, arith}
+use Rattle.std.proofs.Common.{◌≡◌, ◌∙◌, ℕ, zero, suc, List, [], ◌∷◌, ◌++◌, slice_get, Bool, true, false, cond, ◌||◌, Option, None, Some, is_some, refl, sym, ap, subst}
 use Rattle.std.specs.List.{AllByRecursion, IsDistinct, list_any}
 use Rattle.std.specs.Str.{bytes_eq}
 use Rattle.std.specs.Cmp.Lexicographic.{nat_list_eq_equiv}
@@ -7,7 +7,7 @@ use Rattle.std.proofs.lemmas.Slice.Eq.{bytes_eq-Decides}
 use Rattle.std.proofs.lemmas.Map.Keys.{IsDistinct-head, IsDistinct-tail, IsDistinct-push}
 use Rattle.std.proofs.lemmas.List.{map-append}
 use Rattle.name_index.specs.Named.{with_name}
-use Rattle.table_config.specs.Tables.{FirstsCount, HoldsTables, KeepsFirsts, firsts, names_of, table_named, with_table, with_tables}
+use Rattle.table_config.specs.Tables.{FirstsCount, HoldsTables, firsts, names_of, table_named, with_table, with_tables}
 use Rattle.table_config.specs.declared.config.TableEntry.{TableEntry}
 
 None-Some : {A : Type 0} (a : A) → None ≡ Some a → ⊥

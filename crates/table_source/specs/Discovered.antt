@@ -5,8 +5,8 @@ use Rattle.json_write.specs.Objects.{Part, list_text, named, object_text, option
 use Rattle.json_squeeze.specs.Squeeze.{squeezed}
 use Rattle.airbyte_message.specs.declared.message.Message.TheVariants as message
 use Rattle.message_writer.specs.Written.{written}
-use Rattle.table_source.specs.declared.config.TableConfig.{TableConfig}
-use Rattle.table_source.specs.declared.config.TableEntry.{TableEntry}
+use Rattle.table_config.specs.declared.config.TableConfig.{TableConfig}
+use Rattle.table_config.specs.declared.config.TableEntry.{TableEntry}
 
 -- one path of one name
 abbrev pub name_path : List ℕ → List ℕ

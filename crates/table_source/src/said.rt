@@ -2,13 +2,13 @@
 ghost use Rattle.std.specs.Prelude.{◌≡◌, map, option_map, IfOk};
 ghost use Rattle.table_source.specs.Discovered.{discover_line, failed_line, key_paths, name_path, spec_line, succeeded_line, table_text};
 
-use crate::config::{TableConfig, TableEntry};
 use airbyte_message::{CatalogMsg, ConnectionMsg, Message, SpecMsg};
 use basics::{Bytes, BytesList, Name, NoMemory, Path};
 use json_squeeze::squeeze;
 use json_write::{put_list, put_member, put_optional_member, put_string, put_string_member};
 use message_writer::write_message;
 use std::alloc::Global;
+use table_config::{TableConfig, TableEntry};
 
 // A path of one name.
 fn name_path_of(alloc: Global, name: &Name) -> Result<Bytes, NoMemory>

@@ -1,0 +1,5 @@
+mod SortLemmas
+mod StartLemmas
+mod BlobLemmas
+mod ReplayLemmas
+mod SourceLemmas

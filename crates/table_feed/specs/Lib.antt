@@ -1,0 +1,4 @@
+pub mod Start
+pub mod Parts
+pub mod Source
+pub mod Laws
