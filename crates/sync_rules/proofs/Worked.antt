@@ -374,7 +374,7 @@ calls_as_worked = record {
                   (
                     record put_a { attempt = Some (record { start = held_a 0 None; events = first_attempt }) },
                     ((refl, inl ([], refl)), refl),
-                    tt,
+                    omega arith,
                     (
                       begun_again_a,
                       record { set = held_a 0 (Some (2 ∷ [])); text_is = refl; by = inl (gen 0 ∷ [], record { gens_are = refl; is = refl }); is = refl },

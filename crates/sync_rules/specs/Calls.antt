@@ -9,6 +9,7 @@ use Rattle.outside.specs.declared.event.Event.TheVariants as event
 use Rattle.outside.specs.declared.event.Job.{Job}
 use Rattle.outside.specs.declared.status.Status.{Status}
 use Rattle.outside.specs.declared.status.Status.TheVariants as status
+use Rattle.catalog.specs.Reading.{ids_of}
 use Rattle.catalog.specs.declared.stream.ConfStream.{ConfStream}
 use Rattle.catalog.specs.declared.stream.Gen.{Gen}
 use Rattle.load_rules.specs.Lines.{Reading}
@@ -16,7 +17,7 @@ use Rattle.load_rules.specs.Taken.{LaneState}
 use Rattle.load_rules.specs.Attempts.{gives}
 use Rattle.state_kinds.specs.Changes.{put_into}
 use Rattle.sync_rules.specs.Generations.{Begins}
-use Rattle.sync_rules.specs.Sync.{Sync, to_give}
+use Rattle.sync_rules.specs.Sync.{Running, Sync, to_give}
 use Rattle.sync_rules.specs.Steps.{Step}
 use Rattle.sync_rules.specs.SafeSync.{Asked, IsAsked}
 
@@ -67,8 +68,7 @@ SavesRightly streams false sync now = (state : LaneState) × (sync.owed ≡ Some
 abbrev pub HasStarted : Called → Type 0
 HasStarted called = 0 < called.number
 
--- What a call has to fit beside what a sync has to. Lines are read, given and got in its own attempts. (The end of an older attempt
--- may be told in it.)
+-- What a call has to fit beside what a sync has to. Lines are read, given and got in its own attempts, and those end in it.
 abbrev pub CallStep : Call → List ConfStream → Called → Sync → Event → Sync → Type 0
 CallStep call streams called sync (event.Started plan) now = StartsOne call called sync plan
 CallStep call streams called sync (event.Saved text) now = SavesRightly streams (begins_next called sync) sync now
@@ -78,6 +78,7 @@ CallStep call streams called sync (event.Given text) now = HasStarted called
 CallStep call streams called sync event.Closed now = HasStarted called
 CallStep call streams called sync (event.Got text) now = HasStarted called
 CallStep call streams called sync event.GotEnd now = HasStarted called
+CallStep call streams called sync (event.Ended codes) now = HasStarted called
 CallStep call streams called sync event now = Unit {0}
 
 -- where a sync stands in a call
@@ -105,12 +106,6 @@ OwesNothing status.StateFault sync = Unit {0}
 OwesNothing status.NoMemory sync = Unit {0}
 OwesNothing end sync = sync.owed ≡ None
 
--- what a call adds behind a trace, and how it ends
-pub record IsCall (call : Call) (streams : List ConfStream) (read : Reading) (asked : Asked) (before : List Event) (sync : Sync) (more : List Event) (end : Status) : Type 0 where
-  pub there : Standing
-  pub goes : CallGoes call streams read asked before (called_at sync) more there
-  pub paid : OwesNothing end there.sync
-
 -- An attempt that went through: the source's output was read to its end, all that is to be given was given, then the
 -- destination's input was closed, and then its output was read to its end.
 pub record IsThrough (ids : List StreamId) (read : Reading) (events : List Event) : Type 0 where
@@ -120,3 +115,24 @@ pub record IsThrough (ids : List StreamId) (read : Reading) (events : List Event
   pub read_all : read_over front ≡ true
   pub gave_all : gives front ≡ to_give ids read front
   pub got_all : got_over back ≡ true
+
+-- the last attempt of the call went through
+pub record WentThrough (ids : List StreamId) (read : Reading) (there : Standing) : Type 0 where
+  pub attempt : Running
+  pub last : there.sync.attempt ≡ Some attempt
+  pub started : HasStarted there.called
+  pub through : IsThrough ids read attempt.events
+
+-- the ends that come only behind an attempt that went through
+abbrev pub NeedsThrough : Status → Type 0 → Type 0
+NeedsThrough status.Ok through = through
+NeedsThrough (status.SourceIncomplete stream) through = through
+NeedsThrough (status.DestUnechoed line) through = through
+NeedsThrough end through = Unit {0}
+
+-- what a call adds behind a trace, and how it ends
+pub record IsCall (call : Call) (streams : List ConfStream) (read : Reading) (asked : Asked) (before : List Event) (sync : Sync) (more : List Event) (end : Status) : Type 0 where
+  pub there : Standing
+  pub goes : CallGoes call streams read asked before (called_at sync) more there
+  pub paid : OwesNothing end there.sync
+  pub went : NeedsThrough end (WentThrough (ids_of streams) read there)
