@@ -1,0 +1,15 @@
+use Rattle.std.proofs.Common.{◌∙◌, ◌++◌, ◌*◌, ◌%◌, ℕ, ap}
+use Rattle.std.specs.Fmt.{decimal}
+use Rattle.std.proofs.lemmas.Result.{on_ok_weaker}
+use Rattle.made_input.proofs.LineLemmas.{item_front, item_put, version_key}
+use Rattle.made_input.proofs.put.put_item.Goals as goal
+
+pub returns-clause-ok : goal.returns-clause-ok
+returns-clause-ok c =
+    let text = c.args.text.now in
+    let first = c.put_numbered.new.text in
+    on_ok_weaker c.extend.result
+    (item_put text first c.put_numbered-2.new.text c.extend.new.self c.args.row
+    (c.in_ok-put_numbered.ensures.ok ∙ ap (λ (n : ℕ). text ++ (item_front ++ decimal (n * 7 % 1000))) c.from-row.ensures)
+    (c.in_ok-put_numbered-2.ensures.ok ∙ ap (λ (n : ℕ). first ++ (version_key ++ decimal n)) c.from-row.ensures))
+    c.extend.ensures.ok
