@@ -1,0 +1,4 @@
+pub mod EndLemmas
+pub mod RunLemmas
+pub mod EntryLemmas
+pub mod WholeLemmas
