@@ -1,0 +1,9 @@
+//! One attempt of a sync, turn by turn: a source's lines go to a destination, and what comes back is saved.
+#![tactic(auto)]
+
+mod say;
+mod source;
+mod worker;
+
+pub use say::say_line;
+pub use worker::{Moved, Worker};
