@@ -5,3 +5,4 @@ pub mod Silence
 pub mod Waits
 pub mod Ends
 pub mod Heard
+pub mod Laws
