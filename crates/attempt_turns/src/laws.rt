@@ -1,0 +1,7 @@
+// The laws of the ways of a worker, each as the contract of a function that does nothing.
+ghost use Rattle.attempt_turns.specs.Laws.{WaysGoOn};
+
+/// A way of a worker is one of a call, and ways go on one another.
+pub fn ways_go_on()
+    ensures { WaysGoOn }
+{}

@@ -1,0 +1,11 @@
+//! One attempt of a sync, turn by turn: a source's lines go to a destination, and what comes back is saved.
+#![tactic(auto)]
+
+mod laws;
+mod say;
+mod source;
+mod worker;
+
+pub use laws::ways_go_on;
+pub use say::say_line;
+pub use worker::{Moved, Worker};
