@@ -32,7 +32,7 @@ use Rattle.load_rules.specs.SafeDest.{IsSafeDest}
 use Rattle.load_rules.proofs.LoadFronts.{loads-append, opening_is_safe}
 use Rattle.book_rules.specs.Books.{IsBook, KeepsSafeOf, OwnLoadIsSafe, StaySafe, Tells}
 use Rattle.book_rules.specs.Laws.{RefusedKeeps, StartsBegin}
-use Rattle.book_rules.specs.Starts.{ArePlansOf, OpenedFor, RefusedFor, Starts}
+use Rattle.book_rules.specs.Starts.{RefusedBy, ArePlansOf, OpenedFor, RefusedFor, Starts}
 use Rattle.book_rules.specs.Views.{BookView}
 use Rattle.book_rules.proofs.Lists.{length_of_map, some_is}
 use Rattle.book_rules.proofs.Safe.{own_is_safe}
