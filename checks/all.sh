@@ -1,6 +1,6 @@
 #!/usr/bin/env bash
 # Runs the checks over the worker that the gate has built, or builds it: the program's edge, a file of real messages where
-# that is at hand, and random JSON texts, random rows and stores in files where python3 is. Each check that cannot run says so and is passed over.
+# that is at hand, and random JSON texts, random rows, stores in files and a source of files where python3 is. Each check that cannot run says so and is passed over.
 set -u
 cd "$(dirname "${BASH_SOURCE[0]}")/.." || exit 2
 
@@ -28,5 +28,11 @@ if [ -x "$stores" ] && command -v python3 >/dev/null 2>&1; then
     python3 checks/stores.py "$stores" || failed=1
 else
     echo "checks: keeper_bench was not built, or no python3, so no stores"
+fi
+source=crates/source_files/out/source_files
+if [ -x "$source" ] && command -v python3 >/dev/null 2>&1; then
+    python3 checks/source_files.py "$source" "$worker" ../shared/data/zones.csv || failed=1
+else
+    echo "checks: source_files was not built, or no python3, so no files are read"
 fi
 exit "$failed"
