@@ -1,0 +1,134 @@
+-- The steps of a put.
+use Rattle.std.proofs.Common.{◌≡◌, ◌⊎◌, inl, inr, ℕ, List, [], ◌∷◌, length, refl, sym, ◌∙◌, ap, subst, Bool, true, false, Option, None, Some, Result, Ok, Err}
+use Rattle.std.specs.Prelude.{filter, not, if◌then◌else◌}
+use Rattle.std.specs.List.{list_any}
+use Rattle.std.proofs.lemmas.Bool.{cases_Bool, false≢true}
+use Rattle.std.proofs.lemmas.Option.{none-some}
+use Rattle.outside.specs.Dock.{DockSeen}
+use Rattle.outside.specs.declared.event.RawRow.{RawRow}
+use Rattle.outside.specs.declared.fault.Fault.{Fault}
+use Rattle.outside.specs.declared.fault.Fault.TheVariants as fault
+use Rattle.outside.specs.declared.status.Status.{Status}
+use Rattle.outside.specs.declared.status.Status.TheVariants as status
+use Rattle.batch_prep.specs.Items.{Batch}
+use Rattle.batch_prep.specs.declared.item.WorkItem.{WorkItem}
+use Rattle.state_gate.specs.Views.{GateView}
+use Rattle.book_queue.specs.Content.{Held, IsBatchOf, QueueView, Sealed, batch_of, is_in_batch, move}
+use Rattle.book_rules.specs.declared.answer.Put.{Put}
+use Rattle.book_rules.specs.declared.answer.Put.TheVariants as put
+use Rattle.book_rules.specs.Puts.{BreaksPut, BrokenPut, Commits, CommitsRows, GateCommits, GiveBackAnswer, OwnRows, PutAnswer, seqs_of}
+use Rattle.book_rules.specs.Releases.{Point, ReleaseAnswer, stop_of}
+use Rattle.book_rules.specs.Views.{BookView}
+use Rattle.book_parts.specs.Batches.{BreaksBy, FreeAnswer, Frees, PutsOwn}
+
+abbrev without_batch : ℕ → QueueView → QueueView
+without_batch batch queue = record queue { held = filter (λ one. not (is_in_batch batch one)) queue.held }
+
+abbrev freed : BookView → DockSeen → GateView → QueueView → ℕ → BookView
+freed book seen gate queue emitted = record book { seen = seen; gate = gate; queue = queue; tally = record (book.tally) { emitted = emitted } }
+
+-- where a release of a freed book begins, and where it ends
+abbrev from_point : GateView → BookView → Point
+from_point gate book = record { gate = gate; seen = book.seen; emitted = book.tally.emitted }
+
+abbrev to_point : GateView → DockSeen → ℕ → Point
+to_point gate seen emitted = record { gate = gate; seen = seen; emitted = emitted }
+
+pub frees_ok : (batch : ℕ) (own old : BookView) (gate after : GateView) (seen : DockSeen) (emitted : ℕ) (queue : QueueView) → own ≡ old → own.tally.broken ≡ None → GateCommits (seqs_of (batch_of batch own.queue.held)) own.gate gate → queue ≡ without_batch batch own.queue → ReleaseAnswer {T = Unit {0}} (Ok tt) (from_point gate own) (to_point after seen emitted) → Frees batch (Ok tt) old (freed own seen after queue emitted)
+frees_ok batch own old gate after seen emitted queue same whole knows queue_is releases =
+    subst (λ (one : BookView). Frees batch (Ok tt) one (freed own seen after queue emitted)) same
+    (record {
+      gate = gate;
+      knows = knows;
+      releases = releases;
+      is =
+        ap (λ (one : QueueView). freed own seen after one emitted) queue_is
+        ∙ ap (λ (broken : Option Status). record own { seen = seen; gate = after; queue = without_batch batch own.queue; tally = record (own.tally) { emitted = emitted; broken = broken } }) whole;
+    })
+
+pub frees_err : (batch : ℕ) (own old new : BookView) (gate after : GateView) (seen : DockSeen) (emitted : ℕ) (queue : QueueView) (why : Fault) (stop : Status) (result : Put) → own ≡ old → GateCommits (seqs_of (batch_of batch own.queue.held)) own.gate gate → queue ≡ without_batch batch own.queue → ReleaseAnswer {T = Unit {0}} (Err why) (from_point gate own) (to_point after seen emitted) → stop ≡ stop_of why → BreaksBy stop result (freed own seen after queue emitted) new → FreeAnswer batch result old new
+frees_err batch own old new gate after seen emitted queue why stop result same knows queue_is releases stop_is breaks =
+    let new_is : new ≡ record own { seen = seen; gate = after; queue = without_batch batch own.queue; tally = record (own.tally) { emitted = emitted; broken = Some (stop_of why) } } =
+      breaks.is ∙ (ap (λ (one : QueueView). record own { seen = seen; gate = after; queue = one; tally = record (own.tally) { emitted = emitted; broken = Some stop } }) queue_is
+      ∙ ap (λ (one : Status). record own { seen = seen; gate = after; queue = without_batch batch own.queue; tally = record (own.tally) { emitted = emitted; broken = Some one } }) stop_is) in
+    let end : BookView = record own { seen = seen; gate = after; queue = without_batch batch own.queue; tally = record (own.tally) { emitted = emitted; broken = Some (stop_of why) } } in
+    let frees : Frees batch (Err why) own end = record { gate = gate; knows = knows; releases = releases; is = refl } in
+    let here : Frees batch (Err why) old new = subst (λ (one : BookView). Frees batch (Err why) one new) same (subst (λ (one : BookView). Frees batch (Err why) own one) (sym new_is) frees) in
+    subst (λ (one : Put). FreeAnswer batch one old new) (sym breaks.answer) (why, stop_is, here)
+
+-- what follows a commit makes up a put
+frees_commits : (batch number : ℕ) (rows : List RawRow) (released : Result (Unit {0}) Fault) (old new : BookView) (seen : DockSeen) → OwnRows batch number old rows → CommitsRows {T = Unit {0}} (Ok tt) number rows old.seen seen → Frees batch released (record old { seen = seen }) new → Commits batch released old new
+frees_commits batch number rows released old new seen own commits frees = record {
+  number = number;
+  rows = rows;
+  own = own;
+  seen = seen;
+  commits = commits;
+  gate = frees.gate;
+  knows = frees.knows;
+  releases = frees.releases;
+  is = frees.is;
+}
+
+commits_stop : (batch : ℕ) (why : Fault) (old new : BookView) → Commits batch (Err why) old new → BreaksPut (stop_of why) batch old new
+commits_stop batch fault.Failed old new commits = commits
+commits_stop batch fault.NoMemory old new commits = inr (inr commits)
+
+frees_put : (batch number : ℕ) (rows : List RawRow) (result : Put) (old new : BookView) (seen : DockSeen) → OwnRows batch number old rows → CommitsRows {T = Unit {0}} (Ok tt) number rows old.seen seen → FreeAnswer batch result (record old { seen = seen }) new → PutsOwn batch result old new
+frees_put batch number rows put.Done old new seen own commits frees = frees_commits batch number rows (Ok tt) old new seen own commits frees
+frees_put batch number rows (put.Stranger back) old new seen own commits frees = absurd frees
+frees_put batch number rows (put.Broken stop) old new seen own commits frees = subst (λ one. BreaksPut one batch old new) (sym frees.1) (commits_stop batch frees.0 old new (frees_commits batch number rows (Err frees.0) old new seen own commits frees.2))
+
+pub commits_ok : (batch number : ℕ) (rows : List RawRow) (result : Put) (own old new : BookView) (seen : DockSeen) → own ≡ old → OwnRows batch number old rows → CommitsRows {T = Unit {0}} (Ok tt) number rows own.seen seen → FreeAnswer batch result (record own { seen = seen }) new → PutsOwn batch result old new
+commits_ok batch number rows result own old new seen same rows_are commits frees =
+    frees_put batch number rows result old new seen rows_are (subst (λ (one : BookView). CommitsRows {T = Unit {0}} (Ok tt) number rows one.seen seen) same commits) (subst (λ (one : BookView). FreeAnswer batch result (record one { seen = seen }) new) same frees)
+
+-- why a commit stopped
+abbrev store_stop : Fault → Status
+store_stop fault.Failed = status.StoreFault
+store_stop fault.NoMemory = status.NoMemory
+
+stops_put : (batch number : ℕ) (rows : List RawRow) (why : Fault) (old new : BookView) (seen : DockSeen) → OwnRows batch number old rows → CommitsRows {T = Unit {0}} (Err why) number rows old.seen seen → new ≡ record old { seen = seen; tally = record (old.tally) { broken = Some (store_stop why) } } → BreaksPut (store_stop why) batch old new
+stops_put batch number rows fault.Failed old new seen own commits is = (number, rows, seen, own, commits, is)
+stops_put batch number rows fault.NoMemory old new seen own commits is = inr (inl (number, rows, seen, own, commits, is))
+
+pub commits_err : (batch number : ℕ) (rows : List RawRow) (why : Fault) (stop : Status) (result : Put) (own old new : BookView) (seen : DockSeen) → own ≡ old → OwnRows batch number old rows → CommitsRows {T = Unit {0}} (Err why) number rows own.seen seen → stop ≡ store_stop why → BreaksBy stop result (record own { seen = seen }) new → PutsOwn batch result old new
+commits_err batch number rows why stop result own old new seen same rows_are commits stop_is breaks =
+    let is_own : new ≡ record own { seen = seen; tally = record (own.tally) { broken = Some (store_stop why) } } = breaks.is ∙ ap (λ (one : Status). record own { seen = seen; tally = record (own.tally) { broken = Some one } }) stop_is in
+    let is_old : new ≡ record old { seen = seen; tally = record (old.tally) { broken = Some (store_stop why) } } = subst (λ (one : BookView). new ≡ record one { seen = seen; tally = record (one.tally) { broken = Some (store_stop why) } }) same is_own in
+    let stops : BreaksPut (store_stop why) batch old new = stops_put batch number rows why old new seen rows_are (subst (λ (one : BookView). CommitsRows {T = Unit {0}} (Err why) number rows one.seen seen) same commits) is_old in
+    subst (λ (one : Put). PutsOwn batch one old new) (sym breaks.answer) (subst (λ (one : Status). BreaksPut one batch old new) (sym stop_is) stops)
+
+pub lacks_put : (batch : ℕ) (result : Put) (old new : BookView) → BreaksBy status.NoMemory result old new → PutsOwn batch result old new
+lacks_put batch result old new breaks = subst (λ (one : Put). PutsOwn batch one old new) (sym breaks.answer) (inl breaks.is)
+
+broken_own : (first : Option Status) (stop : Status) (batch : ℕ) (old new : BookView) → first ≡ None → list_any (is_in_batch batch) old.queue.held ≡ true → BreaksPut stop batch old new → BrokenPut first stop batch old new
+broken_own None stop batch old new whole some breaks = (some, breaks)
+broken_own (Some first) stop batch old new whole some breaks = absurd (none-some first (sym whole))
+
+-- the answer of a put, where the batch is the book's
+answer_own : (done : Batch) (result : Put) (old new : BookView) → old.tally.broken ≡ None → list_any (is_in_batch done.item.batch) old.queue.held ≡ true → PutsOwn done.item.batch result old new → PutAnswer done result old new
+answer_own done put.Done old new whole some puts = (whole, puts)
+answer_own done (put.Stranger back) old new whole some puts = absurd puts
+answer_own done (put.Broken stop) old new whole some puts = broken_own old.tally.broken stop done.item.batch old new whole some puts
+
+pub put_own : (done : Batch) (result : Put) (old new : BookView) (stream : ℕ) → old.tally.broken ≡ None → IsBatchOf stream done.item.batch old.queue.held → PutsOwn done.item.batch result old new → PutAnswer done result old new
+put_own done result old new stream whole of puts = answer_own done result old new whole of.some puts
+
+-- nothing moves where no record is in the batch
+none_moves : (batch : ℕ) (held : List Held) → list_any (is_in_batch batch) held ≡ false → move (is_in_batch batch) Sealed held ≡ held
+none_moves batch [] none = refl
+none_moves batch (one ∷ more) none = at (cases_Bool (is_in_batch batch one)) (none_moves batch more)
+  where
+    at : (is_in_batch batch one ≡ true) ⊎ (is_in_batch batch one ≡ false) → (list_any (is_in_batch batch) more ≡ false → move (is_in_batch batch) Sealed more ≡ more) → move (is_in_batch batch) Sealed (one ∷ more) ≡ one ∷ more
+    at (inl own) deeper = absurd (false≢true (sym none ∙ rw own refl))
+    at (inr other) deeper = rw other (ap (λ rest. one ∷ rest) (deeper (rw other at none)))
+
+pub gives_back : (item : WorkItem) (was : Bool) (own old : BookView) (queue : QueueView) → own ≡ old → was ≡ list_any (is_in_batch item.batch) own.queue.held → queue ≡ record (own.queue) { held = move (is_in_batch item.batch) Sealed own.queue.held } → was ≡ true → GiveBackAnswer item None old (record own { queue = queue })
+gives_back item was own old queue same was_is back is = subst (λ (one : BookView). GiveBackAnswer item None one (record own { queue = queue })) same (sym was_is ∙ is, ap (λ (one : QueueView). record own { queue = one }) back)
+
+pub strange_back : (item : WorkItem) (was : Bool) (own old : BookView) (queue : QueueView) → own ≡ old → was ≡ list_any (is_in_batch item.batch) own.queue.held → queue ≡ record (own.queue) { held = move (is_in_batch item.batch) Sealed own.queue.held } → was ≡ false → GiveBackAnswer item (Some item) old (record own { queue = queue })
+strange_back item was own old queue same was_is back is =
+    let none : list_any (is_in_batch item.batch) own.queue.held ≡ false = sym was_is ∙ is in
+    let stays : queue ≡ own.queue = back ∙ ap (λ (held : List Held). record (own.queue) { held = held }) (none_moves item.batch own.queue.held none) in
+    subst (λ (one : BookView). GiveBackAnswer item (Some item) one (record own { queue = queue })) same (none, refl, ap (λ (one : QueueView). record own { queue = one }) stays)
