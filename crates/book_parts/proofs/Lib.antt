@@ -5,3 +5,4 @@ pub mod Opening
 pub mod Committing
 pub mod Putting
 pub mod Taking
+pub mod Starting

@@ -1,6 +1,6 @@
 -- For private clauses: the steps of a start.
 use Rattle.std.specs.Prelude.{◌≡◌, List, [], None, false, length, replicate}
-use Rattle.outside.specs.Dock.{DockSeen, DockGrew, OpensFace, OpenedAs, dock_events}
+use Rattle.outside.specs.Dock.{DockSeen, DockGrew, HasOwnIds, OpensFace, OpenedAs, dock_events}
 use Rattle.outside.specs.declared.event.StreamPlan.{StreamPlan}
 use Rattle.outside.specs.declared.fault.Fault.{Fault}
 use Rattle.outside.specs.declared.fault.Fault.TheVariants as fault
@@ -25,6 +25,7 @@ pub record PlansLoad (streams : List ConfStream) (before now : DockSeen) (plan :
   pub marks : List Marks
   pub marks_are : AreMarks before (ids_of streams) marks
   pub plans : ArePlansOf marks streams plan
+  pub own_ids : HasOwnIds plan
   pub keeps : KeepsDock before now
   pub same : dock_events now ≡ dock_events before
 

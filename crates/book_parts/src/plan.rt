@@ -1,6 +1,7 @@
 // The plan of a load.
 ghost use Rattle.std.specs.Prelude.{◌≡◌, ◌≢◌, ◌<◌, IfErr, IfNone, IfOk, IfSome, length, slice_get, Some};
 ghost use Rattle.catalog.specs.Reading.{ids_of};
+ghost use Rattle.outside.specs.Dock.{HasOwnIds};
 ghost use Rattle.outside.specs.declared.faults.CatalogFault.TheVariants as fault;
 ghost use Rattle.book_rules.specs.Starts.{AreColumnsOf, ArePlansOf, HasGens, IsPlanOf, LacksFirst, LacksGeneration};
 
@@ -65,6 +66,7 @@ pub fn plans_of(
 ) -> Result<LoadPlan, CatalogFault>
     requires { length marks.now ≡ length catalog.now }
     ensures plans { IfOk result (ArePlansOf marks.now catalog.now) }
+    ensures own_ids { IfOk result HasOwnIds }
     ensures spent { IfErr result (λ why. why ≢ fault.NoMemory → LacksFirst why marks.now catalog.now) }
 {
     let mut plans = LoadPlan::new(alloc);

@@ -76,6 +76,20 @@ pub struct Room {
     pub shown: Vec<bool>,
 }
 
+// No status of so many streams.
+fn no_statuses(alloc: Global, streams: u32) -> Result<Vec<Option<StreamStatus>>, NoMemory>
+    ensures { IfOk result (λ statuses. statuses.items ≡ replicate streams None) }
+{
+    Ok(vec![in alloc; None; streams as usize]?)
+}
+
+// That none of so many streams was shown.
+fn none_shown(alloc: Global, streams: u32) -> Result<Vec<bool>, NoMemory>
+    ensures { IfOk result (λ shown. shown.items ≡ replicate streams false) }
+{
+    Ok(vec![in alloc; false; streams as usize]?)
+}
+
 // A copy of the catalog, and room for so much.
 fn room_for(alloc: Global, configured: &Configured, limits: Limits) -> Result<Room, NoMemory>
     requires { 1 ≤ limits.batch }
@@ -87,8 +101,8 @@ fn room_for(alloc: Global, configured: &Configured, limits: Limits) -> Result<Ro
         columns: columns_in(alloc, configured)?,
         gate: Gate::new(alloc, streams)?,
         queue: BookQueue::new(alloc, streams, limits.slots, limits.bytes, limits.batch)?,
-        statuses: vec![in alloc; None; streams as usize]?,
-        shown: vec![in alloc; false; streams as usize]?,
+        statuses: no_statuses(alloc, streams)?,
+        shown: none_shown(alloc, streams)?,
     })
 }
 
