@@ -121,15 +121,9 @@ columns_push _ _ stream own all one = absurd all
 pub columns_step : (streams : List ConfStream) (n : ℕ) (columns now : List (List Column)) (stream : ConfStream) (own : List Column) → slice_get streams n ≡ Some stream → now ≡ columns ++ own ∷ [] → AreColumnsOf (take n streams) columns → AreColumns stream.schema own → AreColumnsOf (take (n + 1) streams) now
 columns_step streams n columns now stream own configured grew all one = rw (taken streams n stream configured, grew) (columns_push (take n streams) columns stream own all one)
 
-pub columns_done : (streams : List ConfStream) (n : ℕ) (columns : List (List Column)) → length streams ≤ n → AreColumnsOf (take n streams) columns → AreColumnsOf streams columns
-columns_done streams n columns done all = subst (λ ss. AreColumnsOf ss columns) (take_all n streams done) all
-
 pub ids_step : (streams : List ConfStream) (n : ℕ) (ids now : List StreamId) (stream : ConfStream) (id : StreamId) → slice_get streams n ≡ Some stream → now ≡ ids ++ id ∷ [] → id ≡ stream.id → ids ≡ ids_of (take n streams) → now ≡ ids_of (take (n + 1) streams)
 ids_step streams n ids now stream id configured grew is all =
     grew ∙ (ap (λ more. more ++ id ∷ []) all ∙ (ap (λ one. ids_of (take n streams) ++ one ∷ []) is ∙ (sym (map-append (λ one. one.id) (take n streams) (stream ∷ [])) ∙ ap ids_of (sym (taken streams n stream configured)))))
-
-pub ids_done : (streams : List ConfStream) (n : ℕ) (ids : List StreamId) → length streams ≤ n → ids ≡ ids_of (take n streams) → ids ≡ ids_of streams
-ids_done streams n ids done all = all ∙ ap ids_of (take_all n streams done)
 
 -- the part of a catalog that one lane of one has is the whole
 remainder_none : (n : ℕ) → n % 1 ≡ 0

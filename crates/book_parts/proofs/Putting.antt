@@ -56,64 +56,10 @@ frees_err batch own old new gate after seen emitted queue why stop result same k
     let here : Frees batch (Err why) old new = subst (λ (one : BookView). Frees batch (Err why) one new) same (subst (λ (one : BookView). Frees batch (Err why) own one) (sym new_is) frees) in
     subst (λ (one : Put). FreeAnswer batch one old new) (sym breaks.answer) (why, stop_is, here)
 
--- what follows a commit makes up a put
-frees_commits : (batch number : ℕ) (rows : List RawRow) (released : Result (Unit {0}) Fault) (old new : BookView) (seen : DockSeen) → OwnRows batch number old rows → CommitsRows {T = Unit {0}} (Ok tt) number rows old.seen seen → Frees batch released (record old { seen = seen }) new → Commits batch released old new
-frees_commits batch number rows released old new seen own commits frees = record {
-  number = number;
-  rows = rows;
-  own = own;
-  seen = seen;
-  commits = commits;
-  gate = frees.gate;
-  knows = frees.knows;
-  releases = frees.releases;
-  is = frees.is;
-}
-
-commits_stop : (batch : ℕ) (why : Fault) (old new : BookView) → Commits batch (Err why) old new → BreaksPut (stop_of why) batch old new
-commits_stop batch fault.Failed old new commits = commits
-commits_stop batch fault.NoMemory old new commits = inr (inr commits)
-
-frees_put : (batch number : ℕ) (rows : List RawRow) (result : Put) (old new : BookView) (seen : DockSeen) → OwnRows batch number old rows → CommitsRows {T = Unit {0}} (Ok tt) number rows old.seen seen → FreeAnswer batch result (record old { seen = seen }) new → PutsOwn batch result old new
-frees_put batch number rows put.Done old new seen own commits frees = frees_commits batch number rows (Ok tt) old new seen own commits frees
-frees_put batch number rows (put.Stranger back) old new seen own commits frees = absurd frees
-frees_put batch number rows (put.Broken stop) old new seen own commits frees = subst (λ one. BreaksPut one batch old new) (sym frees.1) (commits_stop batch frees.0 old new (frees_commits batch number rows (Err frees.0) old new seen own commits frees.2))
-
-pub commits_ok : (batch number : ℕ) (rows : List RawRow) (result : Put) (own old new : BookView) (seen : DockSeen) → own ≡ old → OwnRows batch number old rows → CommitsRows {T = Unit {0}} (Ok tt) number rows own.seen seen → FreeAnswer batch result (record own { seen = seen }) new → PutsOwn batch result old new
-commits_ok batch number rows result own old new seen same rows_are commits frees =
-    frees_put batch number rows result old new seen rows_are (subst (λ (one : BookView). CommitsRows {T = Unit {0}} (Ok tt) number rows one.seen seen) same commits) (subst (λ (one : BookView). FreeAnswer batch result (record one { seen = seen }) new) same frees)
-
 -- why a commit stopped
 abbrev store_stop : Fault → Status
 store_stop fault.Failed = status.StoreFault
 store_stop fault.NoMemory = status.NoMemory
-
-stops_put : (batch number : ℕ) (rows : List RawRow) (why : Fault) (old new : BookView) (seen : DockSeen) → OwnRows batch number old rows → CommitsRows {T = Unit {0}} (Err why) number rows old.seen seen → new ≡ record old { seen = seen; tally = record (old.tally) { broken = Some (store_stop why) } } → BreaksPut (store_stop why) batch old new
-stops_put batch number rows fault.Failed old new seen own commits is = (number, rows, seen, own, commits, is)
-stops_put batch number rows fault.NoMemory old new seen own commits is = inr (inl (number, rows, seen, own, commits, is))
-
-pub commits_err : (batch number : ℕ) (rows : List RawRow) (why : Fault) (stop : Status) (result : Put) (own old new : BookView) (seen : DockSeen) → own ≡ old → OwnRows batch number old rows → CommitsRows {T = Unit {0}} (Err why) number rows own.seen seen → stop ≡ store_stop why → BreaksBy stop result (record own { seen = seen }) new → PutsOwn batch result old new
-commits_err batch number rows why stop result own old new seen same rows_are commits stop_is breaks =
-    let is_own : new ≡ record own { seen = seen; tally = record (own.tally) { broken = Some (store_stop why) } } = breaks.is ∙ ap (λ (one : Status). record own { seen = seen; tally = record (own.tally) { broken = Some one } }) stop_is in
-    let is_old : new ≡ record old { seen = seen; tally = record (old.tally) { broken = Some (store_stop why) } } = subst (λ (one : BookView). new ≡ record one { seen = seen; tally = record (one.tally) { broken = Some (store_stop why) } }) same is_own in
-    let stops : BreaksPut (store_stop why) batch old new = stops_put batch number rows why old new seen rows_are (subst (λ (one : BookView). CommitsRows {T = Unit {0}} (Err why) number rows one.seen seen) same commits) is_old in
-    subst (λ (one : Put). PutsOwn batch one old new) (sym breaks.answer) (subst (λ (one : Status). BreaksPut one batch old new) (sym stop_is) stops)
-
-pub lacks_put : (batch : ℕ) (result : Put) (old new : BookView) → BreaksBy status.NoMemory result old new → PutsOwn batch result old new
-lacks_put batch result old new breaks = subst (λ (one : Put). PutsOwn batch one old new) (sym breaks.answer) (inl breaks.is)
-
-broken_own : (first : Option Status) (stop : Status) (batch : ℕ) (old new : BookView) → first ≡ None → list_any (is_in_batch batch) old.queue.held ≡ true → BreaksPut stop batch old new → BrokenPut first stop batch old new
-broken_own None stop batch old new whole some breaks = (some, breaks)
-broken_own (Some first) stop batch old new whole some breaks = absurd (none-some first (sym whole))
-
--- the answer of a put, where the batch is the book's
-answer_own : (done : Batch) (result : Put) (old new : BookView) → old.tally.broken ≡ None → list_any (is_in_batch done.item.batch) old.queue.held ≡ true → PutsOwn done.item.batch result old new → PutAnswer done result old new
-answer_own done put.Done old new whole some puts = (whole, puts)
-answer_own done (put.Stranger back) old new whole some puts = absurd puts
-answer_own done (put.Broken stop) old new whole some puts = broken_own old.tally.broken stop done.item.batch old new whole some puts
-
-pub put_own : (done : Batch) (result : Put) (old new : BookView) (stream : ℕ) → old.tally.broken ≡ None → IsBatchOf stream done.item.batch old.queue.held → PutsOwn done.item.batch result old new → PutAnswer done result old new
-put_own done result old new stream whole of puts = answer_own done result old new whole of.some puts
 
 -- nothing moves where no record is in the batch
 none_moves : (batch : ℕ) (held : List Held) → list_any (is_in_batch batch) held ≡ false → move (is_in_batch batch) Sealed held ≡ held

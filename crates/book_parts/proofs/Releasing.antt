@@ -74,13 +74,6 @@ head_kind emitted gate pending can head =
     let found = head_as can.content pending (sym (head can.content can.stands)) in
     subst (λ one. one.state.kind ≢ Legacy) found.same (kind_found (is_clear can.content.uncommitted) can.content.waiting found.found can.kinds found.is)
 
--- a number more can be counted
-pub room_for_one : (emitted : ℕ) (gate : GateView) (pending : Pending) → MayRelease emitted gate → ((content : Content) → Stands content gate → Some pending ≡ head_of content) → emitted + 1 < 2 ^ 64
-room_for_one emitted gate pending can head =
-    let found = head_as can.content pending (sym (head can.content can.stands)) in
-    let less = one_less (is_clear can.content.uncommitted) can.content.waiting found.found found.is in
-    omega (arith, less, can.room)
-
 -- the next ones can be released behind it
 pub releases_on : (emitted : ℕ) (old new : GateView) (pending : Pending) → MayRelease emitted old → TakesHead pending old new → MayRelease (emitted + 1) new
 releases_on emitted old new pending can takes =
@@ -112,35 +105,8 @@ pub next_released : (more : Bool) (old new : Point) → NextAnswer (Ok more) old
 next_released true old new released is = released
 next_released false old new none is = absurd (false≢true is)
 
-pub next_none : (more : Bool) (old new : Point) → NextAnswer (Ok more) old new → more ≡ false → FindsNone old new
-next_none true old new released is = absurd (false≢true (sym is))
-next_none false old new none is = none
-
 pub can_go_on : (old new : Point) → MayRelease old.emitted old.gate → Released old new → MayRelease new.emitted new.gate
 can_go_on old new can released = subst (λ emitted. MayRelease emitted new.gate) (sym released.counted) (releases_on old.emitted old.gate new.gate released.pending can released.takes)
 
 pub one_more : (first mid new : Point) → ReleasesSoFar first mid → Released mid new → ReleasesSoFar first new
 one_more first mid new so_far released = record { count = suc so_far.count; releases = (mid, so_far.releases, released) }
-
-pub all_released : (first mid new : Point) → ReleasesSoFar first mid → FindsNone mid new → ReleasesAll first new
-all_released first mid new so_far none = record {
-  count = so_far.count;
-  last = mid;
-  releases = so_far.releases;
-  gate = none.gate;
-  content = none.content;
-  seen = none.seen;
-  emitted = none.emitted;
-  quiet = none.quiet;
-}
-
-pub some_released : (stop : Fault) (first mid new : Point) → ReleasesSoFar first mid → FailsAt stop mid new → ReleasesSome stop first new
-some_released stop first mid new so_far fails = record {
-  count = so_far.count;
-  last = mid;
-  releases = so_far.releases;
-  pending = fails.pending;
-  takes = fails.takes;
-  stops = fails.stops;
-  emitted = fails.emitted;
-}

@@ -83,39 +83,3 @@ puts_err lane state kind own old new gate after seen emitted why stop result sam
     let puts : PutsState lane state kind (accepted.Broken (stop_of why)) own end = record { gate = gate; takes = takes; released = Err why; answer = refl; releases = releases; is = refl } in
     let result_is : result ≡ accepted.Broken (stop_of why) = breaks.answer ∙ ap accepted.Broken stop_is in
     subst (λ (one : BookView). PutsState lane state kind result one new) same (subst (λ (one : BookView). PutsState lane state kind result own one) (sym new_is) (subst (λ (one : Accepted). PutsState lane state kind one own end) (sym result_is) puts))
-
--- behind the queues that it covers, that is what a state does
-pub puts_takes : (lane : GateLane) (state : State) (kind : Lanes) (result : Accepted) (old new : BookView) → PutsState lane state kind result (record old { queue = sealed_by lane old.queue }) new → TakesState lane state kind result old new
-puts_takes lane state kind result old new puts = record {
-  gate = puts.gate;
-  takes = puts.takes;
-  released = puts.released;
-  answer = puts.answer;
-  releases = puts.releases;
-  is = puts.is;
-}
-
--- a state of a stream
-own_mixed : (lane : Option Lane) (found : Option ℕ) (state : State) (result : Accepted) (old new : BookView) → IsFoundFor lane old.catalog found → is_other old.tally.lanes lanes.Streams ≡ true → Refuses input.Mixed result old new → TakesStateBy lane state result old new
-own_mixed (Some (one id)) found state result old new known other refuses = rw other refuses
-own_mixed (Some all) found state result old new known other refuses = absurd known
-own_mixed None found state result old new known other refuses = absurd known
-
-pub takes_mixed : (found : Option ℕ) (state : State) (result : Accepted) (old new : BookView) → IsFoundFor (lane_of state.kind) old.catalog found → is_other old.tally.lanes lanes.Streams ≡ true → Refuses input.Mixed result old new → TakesStateBy (lane_of state.kind) state result old new
-takes_mixed found state result old new known other refuses = own_mixed (lane_of state.kind) found state result old new known other refuses
-
-own_found : (lane : Option Lane) (found : Option ℕ) (state : State) (result : Accepted) (old new : BookView) → IsFoundFor lane old.catalog found → is_other old.tally.lanes lanes.Streams ≡ false → TakesStateOf found state result old new → TakesStateBy lane state result old new
-own_found (Some (one id)) found state result old new known other takes = rw other (found, known, takes)
-own_found (Some all) found state result old new known other takes = absurd known
-own_found None found state result old new known other takes = absurd known
-
-pub takes_found : (found : Option ℕ) (state : State) (result : Accepted) (old new : BookView) → IsFoundFor (lane_of state.kind) old.catalog found → is_other old.tally.lanes lanes.Streams ≡ false → TakesStateOf found state result old new → TakesStateBy (lane_of state.kind) state result old new
-takes_found found state result old new known other takes = own_found (lane_of state.kind) found state result old new known other takes
-
--- such a state has a kind
-found_kind : (lane : Option Lane) (catalog : List ConfStream) (found : Option ℕ) → IsFoundFor lane catalog found → lane ≢ None
-found_kind (Some some) catalog found known is = cc
-found_kind None catalog found known is = absurd known
-
-pub is_no_legacy : (state : State) (catalog : List ConfStream) (found : Option ℕ) → IsFoundFor (lane_of state.kind) catalog found → state.kind ≢ Legacy
-is_no_legacy state catalog found known is = found_kind (lane_of state.kind) catalog found known (ap lane_of is)
