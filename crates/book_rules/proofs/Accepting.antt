@@ -1,12 +1,11 @@
 -- What a call on the input does is a run of the machine: a line at most, then seals, then releases.
-use Rattle.std.proofs.Common.{arith, ◌≡◌, ◌≢◌, ◌⊎◌, inl, inr, ℕ, ◌+◌, ◌<◌, ◌≤◌, ◌^◌, eqb, get_or, List, [], ◌∷◌, ◌++◌, map, length, Option, None, Some, Bool, true, false, cond, Result, Ok, Err, refl, sym, ◌∙◌, ap, subst, length-append, slice_set}
-use Rattle.std.specs.Prelude.{filter, filter_map, find, nat_lt, not, ◌||◌, IfSome, IsTrue, ◌↔◌, option_to_list, slice_get}
-use Rattle.std.specs.List.{AllByRecursion, list_any, list_all}
+use Rattle.std.proofs.Common.{arith, ◌≡◌, ◌⊎◌, inl, inr, ℕ, ◌+◌, ◌<◌, ◌≤◌, ◌^◌, eqb, get_or, List, [], ◌∷◌, ◌++◌, length, Option, None, Some, Bool, true, false, cond, Result, Ok, Err, refl, sym, ◌∙◌, ap, subst, slice_set}
+use Rattle.std.specs.Prelude.{filter_map, find, nat_lt, IsTrue, ◌↔◌, slice_get}
+use Rattle.std.specs.List.{AllByRecursion}
 use Rattle.std.proofs.lemmas.List.{append-nil, length-set, get_or-set_same, get_or-set_other}
-use Rattle.std.proofs.lemmas.List.Elements.{filter_map-append}
-use Rattle.std.proofs.lemmas.Bool.{cases_Bool, cases_eq, eq-eqb, ne_eqb, false≢true, false_from_ne_true, ltb-true}
+use Rattle.std.proofs.lemmas.Bool.{cases_eq, eq-eqb, ne_eqb, false_from_ne_true, ltb-false, ltb-true}
 use Rattle.std.proofs.lemmas.Option.{slice_get_within, slice_get-get_or}
-use Rattle.basics.specs.Told.{told_by, told_more}
+use Rattle.basics.specs.Told.{told_more}
 use Rattle.basics.specs.declared.stream.StreamId.{StreamId}
 use Rattle.catalog.specs.declared.stream.ConfStream.{ConfStream}
 use Rattle.stream_index.specs.Distinct.{AreDistinct}
@@ -20,50 +19,40 @@ use Rattle.airbyte_message.specs.declared.message.Message.TheVariants as message
 use Rattle.airbyte_message.specs.declared.message.RecordMsg.{RecordMsg}
 use Rattle.airbyte_message.specs.declared.message.TraceMsg.{TraceMsg}
 use Rattle.airbyte_message.specs.declared.stream_status.StreamStatus.{StreamStatus}
-use Rattle.outside.specs.Dock.{DockSeen, dock_events, took_over}
+use Rattle.outside.specs.Dock.{DockSeen, dock_events}
 use Rattle.outside.specs.Tables.{same_id}
 use Rattle.outside.proofs.TableLaws.{id_is}
-use Rattle.outside.specs.declared.event.Event.{Event}
-use Rattle.outside.specs.declared.event.Event.TheVariants.{Took, TookEnd}
+use Rattle.outside.specs.declared.event.Event.TheVariants.{Took}
 use Rattle.outside.specs.declared.fault.Fault.{Fault}
 use Rattle.outside.specs.declared.faults.InputKind.{InputKind}
 use Rattle.outside.specs.declared.faults.InputKind.TheVariants as input
-use Rattle.outside.specs.declared.link.Polled.{Polled}
-use Rattle.outside.specs.declared.link.Polled.TheVariants as polled
+use Rattle.outside.specs.declared.link.PollKind.TheVariants as poll_kind
 use Rattle.outside.specs.declared.status.Status.{Status}
 use Rattle.outside.specs.declared.status.Status.TheVariants as status
-use Rattle.book_queue.specs.Content.{Held, QueueView, all_of, queued, HasRoom, number_below}
-use Rattle.book_queue.specs.Content as queue
-use Rattle.state_gate.specs.Views.{GateView}
+use Rattle.book_queue.specs.Content.{all_of, queued, HasRoom}
 use Rattle.state_gate.specs.declared.pending.Lane.{Lane as GateLane}
 use Rattle.state_gate.specs.declared.pending.Lane.TheVariants as gate_lane
-use Rattle.load_rules.specs.Acts.{Act, Ends, taken, committed, state_echoed}
+use Rattle.load_rules.specs.Acts.{Act, taken, committed, state_echoed}
 use Rattle.load_rules.specs.Finished.{last_status, status_after}
 use Rattle.load_rules.specs.Lines.{Line, Status as Told, record_in, state_in, status_in, status_told}
-use Rattle.load_rules.specs.Machine.{Machine, Placed, Step, Accept, End, Seal, HandOut, Commit, TakeBack, Release, Turn, run, happens, accepts, is_releasable}
-use Rattle.load_rules.specs.Taken.{entries, since}
-use Rattle.load_rules.proofs.Machines.{taken-more, committed-more}
+use Rattle.load_rules.specs.Machine.{Machine, Step, Accept, End, Seal, HandOut, Commit, TakeBack, Release, Turn, run, happens, accepts, is_releasable}
 use Rattle.load_rules.proofs.SafeRuns.{runs_grow}
 use Rattle.book_rules.specs.declared.answer.Accepted.{Accepted}
-use Rattle.book_rules.specs.declared.answer.Accepted.TheVariants as accepted
 use Rattle.book_rules.specs.declared.answer.Lanes.{Lanes}
 use Rattle.book_rules.specs.declared.answer.Lanes.TheVariants as kinds
-use Rattle.book_rules.specs.declared.answer.Tally.{Tally}
-use Rattle.book_rules.specs.Accepts.{AcceptAnswer, AnswersUnless, Breaks, Ends as EndsBook, GoesOn, MakesRoom, Notes, Reads, Refuses, Rests, TakesCounted, TakesFound, TakesLine, TakesMessage, TakesNext, TakesRecord, TakesRecordOf, TakesState, TakesStateBy, TakesStateIn, TakesStateOf, TakesStateUnless, TakesStatus, Unparks, broken_by, is_other, lanes_of, sealed_by, with_line, with_status}
+use Rattle.book_rules.specs.Accepts.{AcceptAnswer, AnswersUnless, Breaks, Ends as EndsBook, GoesOn, MakesRoom, Notes, Reads, Refuses, Rests, TakesCounted, TakesFound, TakesLine, TakesMessage, TakesNext, TakesRecord, TakesRecordOf, TakesState, TakesStateBy, TakesStateIn, TakesStateOf, TakesStateUnless, TakesStatus, Unparks, broken_by, fault_of, is_other, lane_fault, state_fault, lanes_of, sealed_by, with_line, with_status}
 use Rattle.book_rules.specs.Accepts as accepts_
-use Rattle.book_rules.specs.Books.{CountsEchoes, IsAcceptRun, IsBookOf, IsQuiet, IsReleasing, IsSealing, IsTaking, RunsTo, Runs, Tallied, Tells}
-use Rattle.book_rules.specs.Docks.{Polls}
-use Rattle.book_rules.specs.Holds.{Holds, AreHeld, IsLane, is_end, still}
+use Rattle.book_rules.specs.Books.{BrokeBy, CountsEchoes, IsAcceptRun, IsBookOf, IsQuiet, IsReleasing, IsSealing, IsTaking, RunsTo}
+use Rattle.book_rules.specs.Holds.{IsLane, lanes_among}
 use Rattle.book_rules.specs.Releases.{Point, ReleaseAnswer, stop_of}
 use Rattle.book_rules.specs.Views.{BookView, ids}
-use Rattle.book_rules.proofs.Acts.{Adds, Ran, ran_act, ran_still, ran_unused, ends_more, or_false}
-use Rattle.book_rules.proofs.Lists.{all_append}
-use Rattle.book_rules.proofs.Moves.{held_length, number_same}
-use Rattle.book_rules.proofs.Releasing.{LeadsBroken, LeadsQuiet, at_point, broke_at, counts_of_none, few_held, regated, releases_all_lead, releases_some_lead}
+use Rattle.book_rules.proofs.Acts.{ran_still, ran_unused}
+use Rattle.book_rules.proofs.Moves.{number_same}
+use Rattle.book_rules.proofs.Releasing.{at_point, broke_at, counts_of_none, releases_all_lead, releases_some_lead}
 use Rattle.book_rules.proofs.Sealing.{seal_all_leads, seal_full_leads, seal_leads, seal_oldest_leads}
 use Rattle.book_rules.proofs.Stating.{state_whole, took_state}
-use Rattle.book_rules.proofs.Taking.{empty_few, line_as, releasable_as, other_whole, pushed_aside, pushed_in, quiet_line, record_whole, StatusesFit, took_other, took_record}
-use Rattle.book_rules.proofs.Whole.{IsWhole, Leads, MovesTo, Requeues, book_of_whole, broken_of, leads_on, leads_requeued, whole_of}
+use Rattle.book_rules.proofs.Taking.{empty_few, line_as, releasable_as, other_whole, pushed_aside, pushed_in, quiet_line, record_whole, StatusesFit, took_other, took_record, unknown_fault}
+use Rattle.book_rules.proofs.Whole.{IsWhole, Leads, book_of_whole, broken_counts, broken_of, whole_counts}
 
 -- A run of this shape leads to the book.
 pub record Went (shape : List Step → Type 0) (catalog : List ConfStream) (new : BookView) (m : Machine) : Type 0 where
@@ -141,8 +130,8 @@ counts_any _ counted emitted same = same
 abbrev pub broke : BookView → Status → BookView
 broke book stop = record book { tally = record (book.tally) { broken = Some stop } }
 
-pub broke_still : (book : BookView) (m : Machine) (seen : DockSeen) (stop : Status) → IsWhole book m → dock_events seen ≡ dock_events book.seen → IsBookOf (broke (record book { seen = seen }) stop) m
-broke_still book m seen stop w same =
+pub broke_still : (book : BookView) (m : Machine) (seen : DockSeen) (stop : Status) → IsWhole book m → dock_events seen ≡ dock_events book.seen → BrokeBy (ids book) book.tally.lines seen.face.poll m.acts [] stop → IsBookOf (broke (record book { seen = seen }) stop) m
+broke_still book m seen stop w same why =
     broken_of (broke (record book { seen = seen }) stop) m [] stop refl (ran_still book.catalog book.opening book.limits.slots m [] (dock_events book.seen) (dock_events seen) w.ran same) (record {
       lines = w.tallied.lines;
       most = w.tallied.most;
@@ -150,14 +139,14 @@ broke_still book m seen stop w same =
       lanes = w.tallied.lanes;
       emitted = counts_any stop book.tally.emitted (length (filter_map state_echoed m.acts)) (counts_of_none book.tally.broken book.tally.emitted (length (filter_map state_echoed m.acts)) w.whole w.tallied.emitted);
       ended = w.tallied.ended;
-    })
+    }) (broken_counts stop book.gate.next (length (all_of book.queue)) book.gate.next m.acts m.acts refl refl (whole_counts book m w)) why
 
 -- the book behind a poll that gave a line, which is counted
 abbrev pub after : BookView → DockSeen → BookView
 after book seen = with_line (record book { seen = seen })
 
-broke_line : (book : BookView) (m : Machine) (seen : DockSeen) (text : List ℕ) (stop : Status) → IsWhole book m → book.queue.parked ≡ None → dock_events seen ≡ told_more (Took text ∷ []) (dock_events book.seen) → IsBookOf (broke (after book seen) stop) m
-broke_line book m seen text stop w empty added =
+broke_line : (book : BookView) (m : Machine) (seen : DockSeen) (text : List ℕ) (stop : Status) → IsWhole book m → book.queue.parked ≡ None → dock_events seen ≡ told_more (Took text ∷ []) (dock_events book.seen) → BrokeBy (ids book) (book.tally.lines + 1) seen.face.poll m.acts (text ∷ []) stop → IsBookOf (broke (after book seen) stop) m
+broke_line book m seen text stop w empty added why =
     broken_of (broke (after book seen) stop) m (text ∷ []) stop refl (ran_unused book.catalog book.opening book.limits.slots m text (dock_events book.seen) (dock_events seen) w.ran (empty_few book m empty w) added) (record {
       lines = let before = w.tallied.lines in omega (arith, before);
       most = let few = w.holds.few in omega (arith, few);
@@ -165,7 +154,7 @@ broke_line book m seen text stop w empty added =
       lanes = w.tallied.lanes;
       emitted = counts_any stop book.tally.emitted (length (filter_map state_echoed m.acts)) (counts_of_none book.tally.broken book.tally.emitted (length (filter_map state_echoed m.acts)) w.whole w.tallied.emitted);
       ended = w.tallied.ended;
-    })
+    }) (broken_counts stop book.gate.next (length (all_of book.queue)) book.gate.next m.acts m.acts refl refl (whole_counts book m w)) why
 
 -- What is known before a call goes on: the book is whole, and no releasable state waits.
 pub record Begins (book : BookView) (m : Machine) : Type 0 where
@@ -179,8 +168,8 @@ pub record Given (book : BookView) (m : Machine) (seen : DockSeen) (text : List 
   pub empty : book.queue.parked ≡ None
   pub added : dock_events seen ≡ told_more (Took text ∷ []) (dock_events book.seen)
 
-pub went_refused : (book : BookView) (m : Machine) (seen : DockSeen) (text : List ℕ) (stop : Status) (result : Accepted) (new : BookView) → Given book m seen text → Breaks stop result (after book seen) new → Went IsAcceptRun book.catalog new m
-went_refused book m seen text stop result new g r = went_as IsAcceptRun book.catalog (broke (after book seen) stop) new m r.is (went_none book.catalog (broke (after book seen) stop) m (broke_line book m seen text stop g.b.w g.empty g.added))
+pub went_refused : (book : BookView) (m : Machine) (seen : DockSeen) (text : List ℕ) (stop : Status) (result : Accepted) (new : BookView) → Given book m seen text → BrokeBy (ids book) (book.tally.lines + 1) seen.face.poll m.acts (text ∷ []) stop → Breaks stop result (after book seen) new → Went IsAcceptRun book.catalog new m
+went_refused book m seen text stop result new g why r = went_as IsAcceptRun book.catalog (broke (after book seen) stop) new m r.is (went_none book.catalog (broke (after book seen) stop) m (broke_line book m seen text stop g.b.w g.empty g.added why))
 
 -- Records
 
@@ -262,10 +251,10 @@ went_state book m seen text state lane own kind result new g few answer laned sa
 
 -- Other messages
 
-pub went_other : (book : BookView) (m : Machine) (seen : DockSeen) (text : List ℕ) (found : Option Message) (statuses : List (Option StreamStatus)) (result : Accepted) (new : BookView) → Given book m seen text → book.tally.lines + 1 < 2 ^ 32 → IsAnswer (IsMessage text) found → record_in found ≡ None → state_in found ≡ None → length statuses ≡ length (ids book) → StatusesFit book m found statuses → Notes statuses result (after book seen) new → Went IsAcceptRun book.catalog new m
-went_other book m seen text found statuses result new g few answer no_record no_state many fit t =
+pub went_other : (book : BookView) (m : Machine) (seen : DockSeen) (text : List ℕ) (found : Option Message) (statuses : List (Option StreamStatus)) (result : Accepted) (new : BookView) → Given book m seen text → book.tally.lines + 1 < 2 ^ 32 → IsAnswer (IsMessage text) found → record_in found ≡ None → state_in found ≡ None → fault_of input.BadLine (ids book) (lanes_among (taken m.acts)) found ≡ None → length statuses ≡ length (ids book) → StatusesFit book m found statuses → Notes statuses result (after book seen) new → Went IsAcceptRun book.catalog new m
+went_other book m seen text found statuses result new g few answer no_record no_state fine many fit t =
     let line = line_as text found in
-    let w = other_whole book m seen statuses text found g.b.w g.empty answer no_record no_state g.added few many fit in
+    let w = other_whole book m seen statuses text found g.b.w g.empty answer no_record no_state fine g.added few many fit in
     went_as IsAcceptRun book.catalog (took_other book seen statuses) new m t.is (went_sealed book.catalog (took_other book seen statuses) m (Accept line ∷ []) (omega arith) (tt, tt) (quiet_line m line no_state g.b.quiet) (record { steps = []; all = tt; leads = w }))
 
 -- a message without a status changes none
@@ -296,21 +285,25 @@ set_status ids_ statuses stream number told id now last distinct many named own 
         rw (same_is, ne_eqb number stream apart) (here ∙ (ap (λ (it : Option StreamStatus). Some it) (get_or-set_other statuses stream number now None apart) ∙ (sym (slice_get-get_or statuses number None lt) ∙ is)))
 
 pub went_trace : (book : BookView) (m : Machine) (seen : DockSeen) (text : List ℕ) (content : TraceMsg) (told : Option Told) (result : Accepted) (new : BookView) → Given book m seen text → book.tally.lines + 1 < 2 ^ 32 → IsAnswer (IsMessage text) (Some (message.Trace content)) → status_told content ≡ told → TakesStatus told result (after book seen) new → Went IsAcceptRun book.catalog new m
-went_trace book m seen text content None result new g few answer is t = went_other book m seen text (Some (message.Trace content)) book.statuses result new g few answer refl refl g.b.w.holds.statuses_many (same_statuses book m (Some (message.Trace content)) g.b.w is) t
+went_trace book m seen text content None result new g few answer is t = went_other book m seen text (Some (message.Trace content)) book.statuses result new g few answer refl refl refl g.b.w.holds.statuses_many (same_statuses book m (Some (message.Trace content)) g.b.w is) t
 went_trace book m seen text content (Some told) result new g few answer is t = at t.0 t.1 t.2
   where
     at : (found : Option ℕ) → IsAnswer (λ number. slice_get (ids book) number ≡ Some told.id) found → Notes (with_status found told.status book.statuses) result (after book seen) new → Went IsAcceptRun book.catalog new m
-    at None none notes = went_other book m seen text (Some (message.Trace content)) book.statuses result new g few answer refl refl g.b.w.holds.statuses_many (λ number id named. g.b.w.holds.statuses number id named ∙ sym (ap (λ (it : Option Told). Some (status_after id (last_status id (taken m.acts)) it)) is ∙ ap (λ (b : Bool). Some (cond b (Some told.status) (last_status id (taken m.acts)))) (status_other (ids book) told.id id number none named))) notes
-    at (Some stream) found notes = went_other book m seen text (Some (message.Trace content)) (slice_set book.statuses stream (Some told.status)) result new g few answer refl refl (length-set book.statuses stream (Some told.status) ∙ g.b.w.holds.statuses_many) (λ number id named. set_status (ids book) book.statuses stream number told.id id (Some told.status) (last_status id (taken m.acts)) g.b.distinct g.b.w.holds.statuses_many found.is named (g.b.w.holds.statuses number id named) ∙ sym (ap (λ (it : Option Told). Some (status_after id (last_status id (taken m.acts)) it)) is)) notes
+    at None none notes = went_other book m seen text (Some (message.Trace content)) book.statuses result new g few answer refl refl refl g.b.w.holds.statuses_many (λ number id named. g.b.w.holds.statuses number id named ∙ sym (ap (λ (it : Option Told). Some (status_after id (last_status id (taken m.acts)) it)) is ∙ ap (λ (b : Bool). Some (cond b (Some told.status) (last_status id (taken m.acts)))) (status_other (ids book) told.id id number none named))) notes
+    at (Some stream) found notes = went_other book m seen text (Some (message.Trace content)) (slice_set book.statuses stream (Some told.status)) result new g few answer refl refl refl (length-set book.statuses stream (Some told.status) ∙ g.b.w.holds.statuses_many) (λ number id named. set_status (ids book) book.statuses stream number told.id id (Some told.status) (last_status id (taken m.acts)) g.b.distinct g.b.w.holds.statuses_many found.is named (g.b.w.holds.statuses number id named) ∙ sym (ap (λ (it : Option Told). Some (status_after id (last_status id (taken m.acts)) it)) is)) notes
 
 -- Messages
 
 went_record_of : (book : BookView) (m : Machine) (seen : DockSeen) (text : List ℕ) (content : RecordMsg) (found : Option ℕ) (result : Accepted) (new : BookView) → Given book m seen text → book.tally.lines + 1 < 2 ^ 32 → IsAnswer (IsMessage text) (Some (message.Rec content)) → IsAnswer (λ number. slice_get (ids book) number ≡ Some content.id) found → TakesRecordOf found text result (after book seen) new → Went IsAcceptRun book.catalog new m
-went_record_of book m seen text content None result new g few answer named t = went_refused book m seen text _ result new g t
+went_record_of book m seen text content None result new g few answer named t = went_refused book m seen text _ result new g (refl, record { line = text; last = refl; found = Some (message.Rec content); read = answer; fault = unknown_fault (ids book) content.id named }) t
 went_record_of book m seen text content (Some stream) result new g few answer named t = went_record book m seen text content stream result new g few answer named.is t
 
+-- the fault of a state, by what the states before it were of
+state_faulty : (book : BookView) (m : Machine) (state : State) (lane : Lane) (b : Bool) → IsWhole book m → lane_of state.kind ≡ Some lane → is_other book.tally.lanes (lanes_of lane) ≡ b → state_fault (ids book) (lanes_among (taken m.acts)) (lane_of state.kind) ≡ cond b (Some input.Mixed) (lane_fault (ids book) lane)
+state_faulty book m state lane b w laned is = ap (state_fault (ids book) (lanes_among (taken m.acts))) laned ∙ (ap (λ (known : Option Lanes). cond (is_other known (lanes_of lane)) (Some input.Mixed) (lane_fault (ids book) lane)) (sym w.tallied.lanes) ∙ ap (λ (it : Bool). cond it (Some input.Mixed) (lane_fault (ids book) lane)) is)
+
 went_state_of : (book : BookView) (m : Machine) (seen : DockSeen) (text : List ℕ) (state : State) (id : StreamId) (found : Option ℕ) (result : Accepted) (new : BookView) → Given book m seen text → book.tally.lines + 1 < 2 ^ 32 → IsAnswer (IsMessage text) (Some (message.State state)) → lane_of state.kind ≡ Some (lanes.one id) → is_other book.tally.lanes kinds.Streams ≡ false → IsAnswer (λ number. slice_get (ids book) number ≡ Some id) found → TakesStateOf found state result (after book seen) new → Went IsAcceptRun book.catalog new m
-went_state_of book m seen text state id None result new g few answer laned same named t = went_refused book m seen text _ result new g t
+went_state_of book m seen text state id None result new g few answer laned same named t = went_refused book m seen text _ result new g (refl, record { line = text; last = refl; found = Some (message.State state); read = answer; fault = state_faulty book m state (lanes.one id) false g.b.w laned same ∙ unknown_fault (ids book) id named }) t
 went_state_of book m seen text state id (Some stream) result new g few answer laned same named t = went_state book m seen text state (lanes.one id) (gate_lane.Stream stream) kinds.Streams result new g few answer laned same (named.is, refl) t
 
 went_state_in : (book : BookView) (m : Machine) (seen : DockSeen) (text : List ℕ) (state : State) (lane : Lane) (result : Accepted) (new : BookView) → Given book m seen text → book.tally.lines + 1 < 2 ^ 32 → IsAnswer (IsMessage text) (Some (message.State state)) → lane_of state.kind ≡ Some lane → is_other book.tally.lanes (lanes_of lane) ≡ false → TakesStateIn lane state result (after book seen) new → Went IsAcceptRun book.catalog new m
@@ -318,36 +311,44 @@ went_state_in book m seen text state (lanes.one id) result new g few answer lane
 went_state_in book m seen text state lanes.all result new g few answer laned same t = went_state book m seen text state lanes.all gate_lane.Global kinds.All result new g few answer laned same (tt, refl) t
 
 went_state_by : (book : BookView) (m : Machine) (seen : DockSeen) (text : List ℕ) (state : State) (lane : Option Lane) (result : Accepted) (new : BookView) → Given book m seen text → book.tally.lines + 1 < 2 ^ 32 → IsAnswer (IsMessage text) (Some (message.State state)) → lane_of state.kind ≡ lane → TakesStateBy lane state result (after book seen) new → Went IsAcceptRun book.catalog new m
-went_state_by book m seen text state None result new g few answer laned t = went_refused book m seen text _ result new g t
+went_state_by book m seen text state None result new g few answer laned t = went_refused book m seen text _ result new g (refl, record { line = text; last = refl; found = Some (message.State state); read = answer; fault = ap (state_fault (ids book) (lanes_among (taken m.acts))) laned }) t
 went_state_by book m seen text state (Some lane) result new g few answer laned t = at (is_other book.tally.lanes (lanes_of lane)) refl t
   where
     at : (b : Bool) → is_other book.tally.lanes (lanes_of lane) ≡ b → TakesStateUnless b lane state result (after book seen) new → Went IsAcceptRun book.catalog new m
-    at true other t = went_refused book m seen text _ result new g t
+    at true other t = went_refused book m seen text _ result new g (refl, record { line = text; last = refl; found = Some (message.State state); read = answer; fault = state_faulty book m state lane true g.b.w laned other }) t
     at false same t = went_state_in book m seen text state lane result new g few answer laned same t
 
 pub went_message : (book : BookView) (m : Machine) (seen : DockSeen) (text : List ℕ) (content : Message) (result : Accepted) (new : BookView) → Given book m seen text → book.tally.lines + 1 < 2 ^ 32 → IsAnswer (IsMessage text) (Some content) → TakesMessage content text result (after book seen) new → Went IsAcceptRun book.catalog new m
 went_message book m seen text (message.Rec content) result new g few answer t = went_record_of book m seen text content t.0 result new g few answer t.1 t.2
 went_message book m seen text (message.State state) result new g few answer t = went_state_by book m seen text state (lane_of state.kind) result new g few answer refl t
 went_message book m seen text (message.Trace content) result new g few answer t = went_trace book m seen text content (status_told content) result new g few answer refl t
-went_message book m seen text (message.Log content) result new g few answer t = went_other book m seen text (Some (message.Log content)) book.statuses result new g few answer refl refl g.b.w.holds.statuses_many (same_statuses book m (Some (message.Log content)) g.b.w refl) t
-went_message book m seen text (message.Spec content) result new g few answer t = went_other book m seen text (Some (message.Spec content)) book.statuses result new g few answer refl refl g.b.w.holds.statuses_many (same_statuses book m (Some (message.Spec content)) g.b.w refl) t
-went_message book m seen text (message.Connection content) result new g few answer t = went_other book m seen text (Some (message.Connection content)) book.statuses result new g few answer refl refl g.b.w.holds.statuses_many (same_statuses book m (Some (message.Connection content)) g.b.w refl) t
-went_message book m seen text (message.Catalog content) result new g few answer t = went_other book m seen text (Some (message.Catalog content)) book.statuses result new g few answer refl refl g.b.w.holds.statuses_many (same_statuses book m (Some (message.Catalog content)) g.b.w refl) t
-went_message book m seen text (message.Control content) result new g few answer t = went_other book m seen text (Some (message.Control content)) book.statuses result new g few answer refl refl g.b.w.holds.statuses_many (same_statuses book m (Some (message.Control content)) g.b.w refl) t
+went_message book m seen text (message.Log content) result new g few answer t = went_other book m seen text (Some (message.Log content)) book.statuses result new g few answer refl refl refl g.b.w.holds.statuses_many (same_statuses book m (Some (message.Log content)) g.b.w refl) t
+went_message book m seen text (message.Spec content) result new g few answer t = went_other book m seen text (Some (message.Spec content)) book.statuses result new g few answer refl refl refl g.b.w.holds.statuses_many (same_statuses book m (Some (message.Spec content)) g.b.w refl) t
+went_message book m seen text (message.Connection content) result new g few answer t = went_other book m seen text (Some (message.Connection content)) book.statuses result new g few answer refl refl refl g.b.w.holds.statuses_many (same_statuses book m (Some (message.Connection content)) g.b.w refl) t
+went_message book m seen text (message.Catalog content) result new g few answer t = went_other book m seen text (Some (message.Catalog content)) book.statuses result new g few answer refl refl refl g.b.w.holds.statuses_many (same_statuses book m (Some (message.Catalog content)) g.b.w refl) t
+went_message book m seen text (message.Control content) result new g few answer t = went_other book m seen text (Some (message.Control content)) book.statuses result new g few answer refl refl refl g.b.w.holds.statuses_many (same_statuses book m (Some (message.Control content)) g.b.w refl) t
 
 -- Lines
 
-went_found : (book : BookView) (m : Machine) (seen : DockSeen) (text : List ℕ) (kind : InputKind) (found : Option Message) (result : Accepted) (new : BookView) → Given book m seen text → book.tally.lines + 1 < 2 ^ 32 → IsAnswer (IsMessage text) found → TakesFound found kind text result (after book seen) new → Went IsAcceptRun book.catalog new m
-went_found book m seen text kind None result new g few answer t = went_refused book m seen text _ result new g t
-went_found book m seen text kind (Some content) result new g few answer t = went_message book m seen text content result new g few answer t
+-- how a line that is no message came
+abbrev pub PollFits : InputKind → DockSeen → Type 0
+PollFits input.BadLine seen = Unit {0}
+PollFits input.TornTail seen = seen.face.poll ≡ poll_kind.Torn
+PollFits kind seen = ⊥
 
-pub went_line : (book : BookView) (m : Machine) (seen : DockSeen) (text : List ℕ) (kind : InputKind) (result : Accepted) (new : BookView) → Given book m seen text → TakesLine kind text result (record book { seen = seen }) new → Went IsAcceptRun book.catalog new m
-went_line book m seen text kind result new g t = at (nat_lt (book.tally.lines + 1) (2 ^ 32)) refl t
+went_found : (book : BookView) (m : Machine) (seen : DockSeen) (text : List ℕ) (kind : InputKind) (found : Option Message) (result : Accepted) (new : BookView) → Given book m seen text → PollFits kind seen → book.tally.lines + 1 < 2 ^ 32 → IsAnswer (IsMessage text) found → TakesFound found kind text result (after book seen) new → Went IsAcceptRun book.catalog new m
+went_found book m seen text input.BadLine None result new g poll few answer t = went_refused book m seen text _ result new g (refl, record { line = text; last = refl; found = None; read = answer; fault = refl }) t
+went_found book m seen text input.TornTail None result new g poll few answer t = went_refused book m seen text _ result new g (refl, poll, record { line = text; last = refl; found = None; read = answer; fault = refl }) t
+went_found book m seen text _ None result new g poll few answer t = absurd poll
+went_found book m seen text kind (Some content) result new g poll few answer t = went_message book m seen text content result new g few answer t
+
+pub went_line : (book : BookView) (m : Machine) (seen : DockSeen) (text : List ℕ) (kind : InputKind) (result : Accepted) (new : BookView) → Given book m seen text → PollFits kind seen → TakesLine kind text result (record book { seen = seen }) new → Went IsAcceptRun book.catalog new m
+went_line book m seen text kind result new g poll t = at (nat_lt (book.tally.lines + 1) (2 ^ 32)) refl t
   where
     read : book.tally.lines + 1 < 2 ^ 32 → Breaks status.NoMemory result (after book seen) new ⊎ Reads kind text result (after book seen) new → Went IsAcceptRun book.catalog new m
-    read few (inl lacks) = went_refused book m seen text status.NoMemory result new g lacks
-    read few (inr reads) = went_found book m seen text kind reads.found result new g few reads.read reads.takes
+    read few (inl lacks) = went_refused book m seen text status.NoMemory result new g tt lacks
+    read few (inr reads) = went_found book m seen text kind reads.found result new g poll few reads.read reads.takes
 
     at : (b : Bool) → nat_lt (book.tally.lines + 1) (2 ^ 32) ≡ b → TakesCounted b kind text result (after book seen) new → Went IsAcceptRun book.catalog new m
     at true few t = read (ltb-true (book.tally.lines + 1) (2 ^ 32) few) t
-    at false many t = went_refused book m seen text status.TooManyLines result new g t
+    at false many t = went_refused book m seen text status.TooManyLines result new g (let low = g.b.w.holds.few in let high = ltb-false (book.tally.lines + 1) (2 ^ 32) many in omega (arith, low, high)) t

@@ -1,28 +1,29 @@
 -- A run of the machine, and the trace beside it: one act more, or a line that is not used.
-use Rattle.std.proofs.Common.{arith, ◌≡◌, ◌⊎◌, inl, inr, ℕ, ◌+◌, ◌<◌, ◌≤◌, List, [], ◌∷◌, ◌++◌, map, length, Option, None, Some, Bool, true, false, refl, sym, ◌∙◌, ap, subst, append_assoc, length-append}
+use Rattle.std.proofs.Common.{arith, ◌≡◌, ℕ, ◌+◌, ◌≤◌, List, [], ◌∷◌, ◌++◌, map, length, Option, None, Some, Bool, true, false, refl, sym, ◌∙◌, ap, subst}
 use Rattle.std.specs.Prelude.{filter, fold, not, ◌||◌, IfSome}
-use Rattle.std.specs.List.{AllByRecursion, list_any}
+use Rattle.std.specs.List.{list_any}
 use Rattle.std.proofs.lemmas.List.{append-nil}
 use Rattle.std.proofs.lemmas.List.Folds.{list_any-append}
 use Rattle.std.proofs.lemmas.List.Sums.{fold-append}
 use Rattle.basics.specs.Told.{told_more}
+use Rattle.catalog.specs.Reading.{ids_of}
 use Rattle.catalog.specs.declared.stream.ConfStream.{ConfStream}
 use Rattle.outside.specs.Dock.{took_over, took_over_after, is_opening}
 use Rattle.outside.specs.Event.{is_links}
 use Rattle.outside.specs.declared.event.Event.{Event}
 use Rattle.outside.specs.declared.event.Event.TheVariants.{Took}
-use Rattle.load_rules.specs.Acts.{Act, Takes, IsAct, AreActs, taken, committed}
-use Rattle.load_rules.specs.Lines.{Reading, IsReading, ReadsEvent}
+use Rattle.load_rules.specs.Acts.{Act, Takes, Ends, Commits, Echoes, Turns, IsAct, AreActs, taken, committed}
+use Rattle.load_rules.specs.Lines.{Reading, ReadsEvent}
 use Rattle.load_rules.specs.Loads.{Load, Opening, loads, loads_after, store_events, with_event}
 use Rattle.load_rules.specs.Machine.{Machine, Placed, Step, start, run, happens, is_done, entry_of, BringsOwnRows}
 use Rattle.load_rules.specs.Prefixes.{EachFits, with_first}
 use Rattle.load_rules.specs.SafeDest.{Fits, uncommitted}
-use Rattle.load_rules.specs.Taken.{Entry, entries, is_in}
+use Rattle.load_rules.specs.Taken.{Entry, is_in}
 use Rattle.load_rules.proofs.LoadFronts.{loads-append, goes_on}
-use Rattle.load_rules.proofs.Machines.{IsGood, IsMarked, good_run, good_start}
+use Rattle.load_rules.proofs.Machines.{IsGood, IsMarked, good_run, good_start, taken-more}
 use Rattle.load_rules.proofs.SafeRuns.{runs_grow, runs_stay_safe}
 use Rattle.load_rules.proofs.TakenLists.{each_more, all_weaker}
-use Rattle.book_rules.specs.Books.{HoldsFew, Tells, take_of, AreUnused}
+use Rattle.book_rules.specs.Books.{HoldsFew, IsGoodLine, Tells, take_of, AreUnused}
 use Rattle.book_rules.specs.Holds.{is_end, still}
 use Rattle.book_rules.proofs.Lists.{all_first, all_second, filter_map_list, length_of_map}
 
@@ -89,6 +90,7 @@ pub record Ran (catalog : List ConfStream) (opening : Opening) (slots : ℕ) (m 
   pub runs : run catalog steps start ≡ m
   pub safe : EachFits (Fits catalog opening) [] m.acts
   pub bounded : EachFits (HoldsFew (slots + 1)) [] m.acts
+  pub good : EachFits (IsGoodLine (ids_of catalog)) [] (taken m.acts)
   pub unused_are : AreUnused slots m.acts unused
   pub told : IfSome events (Tells opening m.acts unused)
 
@@ -112,13 +114,26 @@ told_unused : (opening : Opening) (acts : List Act) (text : List ℕ) (before no
 told_unused opening acts text None now added told = subst (λ (o : Option (List Event)). IfSome o (Tells opening acts (text ∷ []))) (sym added) tt
 told_unused opening acts text (Some trace) now added told = subst (λ (o : Option (List Event)). IfSome o (Tells opening acts (text ∷ []))) (sym added) (tells_unused opening acts text trace told)
 
+-- a line that is used has no fault
+abbrev pub IsGoodAct : List ConfStream → List Act → Act → Type 0
+IsGoodAct catalog acts (Takes line) = IsGoodLine (ids_of catalog) (taken acts) line
+IsGoodAct catalog acts act = Unit {0}
+
+good_more : (catalog : List ConfStream) (acts : List Act) (act : Act) → IsGoodAct catalog acts act → EachFits (IsGoodLine (ids_of catalog)) [] (taken acts) → EachFits (IsGoodLine (ids_of catalog)) [] (taken (acts ++ act ∷ []))
+good_more catalog acts (Takes line) good each = subst (EachFits (IsGoodLine (ids_of catalog)) []) (sym (taken-more acts (Takes line))) (each_more (IsGoodLine (ids_of catalog)) [] (taken acts) line each good)
+good_more catalog acts Ends good each = subst (EachFits (IsGoodLine (ids_of catalog)) []) (sym (taken-more acts Ends ∙ append-nil (taken acts))) each
+good_more catalog acts (Commits number rows) good each = subst (EachFits (IsGoodLine (ids_of catalog)) []) (sym (taken-more acts (Commits number rows) ∙ append-nil (taken acts))) each
+good_more catalog acts (Echoes state) good each = subst (EachFits (IsGoodLine (ids_of catalog)) []) (sym (taken-more acts (Echoes state) ∙ append-nil (taken acts))) each
+good_more catalog acts Turns good each = subst (EachFits (IsGoodLine (ids_of catalog)) []) (sym (taken-more acts Turns ∙ append-nil (taken acts))) each
+
 -- a step that adds an act
-pub ran_act : (catalog : List ConfStream) (opening : Opening) (slots : ℕ) (m : Machine) (step : Step) (act : Act) (before now : Option (List Event)) → Ran catalog opening slots m [] before → (happens catalog m step).acts ≡ m.acts ++ act ∷ [] → BringsOwnRows catalog opening m step → length (still (happens catalog m step).placed) ≤ slots + 1 → Adds act before now → Ran catalog opening slots (happens catalog m step) [] now
-ran_act catalog opening slots m step act before now r more own few adds = record {
+pub ran_act : (catalog : List ConfStream) (opening : Opening) (slots : ℕ) (m : Machine) (step : Step) (act : Act) (before now : Option (List Event)) → Ran catalog opening slots m [] before → (happens catalog m step).acts ≡ m.acts ++ act ∷ [] → IsGoodAct catalog m.acts act → BringsOwnRows catalog opening m step → length (still (happens catalog m step).placed) ≤ slots + 1 → Adds act before now → Ran catalog opening slots (happens catalog m step) [] now
+ran_act catalog opening slots m step act before now r more fine own few adds = record {
   steps = r.steps ++ step ∷ [];
   runs = runs;
   safe = subst (λ (it : Machine). EachFits (Fits catalog opening) [] it.acts) runs (runs_stay_safe catalog opening r.steps step (subst (λ (it : Machine). EachFits (Fits catalog opening) [] it.acts) (sym r.runs) r.safe) (subst (λ (it : Machine). BringsOwnRows catalog opening it step) (sym r.runs) own));
   bounded = subst (EachFits (HoldsFew (slots + 1)) []) (sym more) (each_more (HoldsFew (slots + 1)) [] m.acts act r.bounded fits);
+  good = subst (λ (acts : List Act). EachFits (IsGoodLine (ids_of catalog)) [] (taken acts)) (sym more) (good_more catalog m.acts act fine r.good);
   unused_are = tt;
   told = subst (λ (acts : List Act). IfSome now (Tells opening acts [])) (sym more) (told_act opening m.acts act before now adds r.told);
 }
@@ -139,6 +154,7 @@ ran_moved catalog opening slots m unused events steps placed r is = record {
   runs = runs_grow catalog r.steps steps start ∙ (ap (run catalog steps) r.runs ∙ is);
   safe = r.safe;
   bounded = r.bounded;
+  good = r.good;
   unused_are = r.unused_are;
   told = r.told;
 }
@@ -154,6 +170,7 @@ ran_unused catalog opening slots m text before now r few added = record {
   runs = r.runs;
   safe = r.safe;
   bounded = r.bounded;
+  good = r.good;
   unused_are = let long = uncommitted_length m (ran_good catalog opening slots m [] before r) in omega (arith, long, few);
   told = told_unused opening m.acts text before now added r.told;
 }

@@ -1,8 +1,8 @@
 -- A batch that is committed, and what a put is to the machine.
-use Rattle.std.proofs.Common.{arith, ◌≡◌, ◌⊎◌, inl, inr, ℕ, ◌+◌, ◌<◌, ◌≤◌, eqb, List, [], ◌∷◌, ◌++◌, map, length, Option, None, Some, Bool, true, false, cond, Result, Ok, Err, refl, sym, ◌∙◌, ap, subst, length-append}
-use Rattle.std.specs.Prelude.{filter, filter_map, not, ◌&&◌, ◌||◌, IfSome, option_map, option_to_list, slice_get}
+use Rattle.std.proofs.Common.{arith, ◌≡◌, ◌⊎◌, inl, inr, ℕ, ◌+◌, ◌≤◌, eqb, List, [], ◌∷◌, ◌++◌, map, length, Option, None, Some, Bool, true, false, cond, Result, Ok, Err, refl, sym, ◌∙◌, ap, subst, length-append}
+use Rattle.std.specs.Prelude.{filter, filter_map, not, ◌&&◌, IfSome, option_map, option_to_list, slice_get}
 use Rattle.std.specs.List.{AllByRecursion, list_any}
-use Rattle.std.proofs.lemmas.List.{append-nil, map-append}
+use Rattle.std.proofs.lemmas.List.{append-nil}
 use Rattle.std.proofs.lemmas.List.Elements.{filter-append, filter_map-append}
 use Rattle.std.proofs.lemmas.Bool.{cases_Bool, eq-eqb, false≢true}
 use Rattle.std.proofs.lemmas.Option.{slice_get-map}
@@ -13,7 +13,6 @@ use Rattle.stream_index.specs.Distinct.{AreDistinct}
 use Rattle.airbyte_message.specs.Lanes as lanes
 use Rattle.batch_prep.specs.Items.{Batch}
 use Rattle.outside.specs.Dock.{DockSeen, dock_events}
-use Rattle.outside.specs.Tables.{same_id}
 use Rattle.outside.proofs.TableLaws.{id_own}
 use Rattle.outside.specs.declared.event.Event.{Event}
 use Rattle.outside.specs.declared.event.Event.TheVariants.{Committed}
@@ -21,6 +20,7 @@ use Rattle.outside.specs.declared.event.RawRow.{RawRow}
 use Rattle.outside.specs.declared.fault.Fault.{Fault}
 use Rattle.outside.specs.declared.fault.Fault.TheVariants as fault
 use Rattle.outside.specs.declared.line.SeqLine.{SeqLine}
+use Rattle.outside.specs.declared.link.PollKind.{PollKind}
 use Rattle.outside.specs.declared.status.Status.{Status}
 use Rattle.outside.specs.declared.status.Status.TheVariants as status
 use Rattle.book_queue.specs.Content.{Held, all_of, batch_of, number_below}
@@ -30,26 +30,26 @@ use Rattle.state_gate.specs.Views.{GateView}
 use Rattle.load_rules.specs.Acts.{Act, Commits, taken, state_echoed}
 use Rattle.load_rules.specs.Engine.{PlansFit}
 use Rattle.load_rules.specs.Finished.{last_status}
-use Rattle.load_rules.specs.Machine.{Machine, Placed, Step, Commit, Done, run, happens, commits, commits_batch, commits_at, entry_of, have_sequences, in_batch, is_done, is_in_batch, is_of, is_out, move}
+use Rattle.load_rules.specs.Machine.{Machine, Placed, Step, Commit, Done, run, happens, commits, commits_batch, commits_at, have_sequences, in_batch, is_done, is_in_batch, is_of, is_out, move}
 use Rattle.load_rules.specs.SafeDest.{AreRowsOf}
 use Rattle.load_rules.specs.Taken.{Entry, entries, is_in, since}
 use Rattle.load_rules.proofs.Machines.{commit_taken, length-move, numbered_placed, picked, picked_is, seqs}
 use Rattle.book_rules.specs.declared.answer.Put.{Put}
 use Rattle.book_rules.specs.declared.answer.Put.TheVariants as put
 use Rattle.book_rules.specs.Accepts.{broken_by}
-use Rattle.book_rules.specs.Books.{IsBookOf, IsPutRun, IsReleasing, Runs, Tallied}
+use Rattle.book_rules.specs.Books.{BrokeBy, IsBookOf, IsPutRun, Runs}
 use Rattle.book_rules.specs.Holds.{AreHeld, IsHeld, accepted_of, is_end, lanes_among, still}
-use Rattle.book_rules.specs.Puts.{BreaksPut, BrokenPut, Commits as CommitsBook, CommitsRows, GateCommits, OwnRows, PutAnswer, Stops, seqs_of}
-use Rattle.book_rules.specs.Releases.{Point, ReleaseAnswer, stop_of}
+use Rattle.book_rules.specs.Puts.{BreaksPut, BrokenPut, Commits as CommitsBook, GateCommits, OwnRows, PutAnswer, Stops, seqs_of}
+use Rattle.book_rules.specs.Releases.{Point, ReleaseAnswer}
 use Rattle.book_rules.specs.Views.{BookView, ids}
 use Rattle.book_rules.proofs.Accepting.{Went, broke, broke_still, counts_any, unbroken, went_as, went_runs}
-use Rattle.book_rules.proofs.Acts.{Adds, Ran, ran_act, ends_more, or_false}
-use Rattle.book_rules.proofs.Lists.{all_append, filter_as, filter_map_list, length_filter, some_is}
+use Rattle.book_rules.proofs.Acts.{Ran, ran_act, ends_more, or_false}
+use Rattle.book_rules.proofs.Lists.{filter_as, filter_map_list, length_filter}
 use Rattle.book_rules.proofs.Moves.{done_held, held_in_batch, held_length}
 use Rattle.book_rules.proofs.Putting.{IsOwnPlan, all_filter, all_held, all_own, filter_held, have_is, held_seqs, nil_map, none_passes, plans_alike, rows_of}
-use Rattle.book_rules.proofs.Releasing.{at_point, broke_at, counts_of_none, few_held, releases_all_lead, releases_some_lead}
-use Rattle.book_rules.proofs.Sealing.{and_none, done_not_out}
-use Rattle.book_rules.proofs.Whole.{IsWhole, book_of_whole, broken_of, whole_good, whole_of}
+use Rattle.book_rules.proofs.Releasing.{at_point, counts_of_none, few_held, releases_all_lead, releases_some_lead}
+use Rattle.book_rules.proofs.Sealing.{and_none, batch_done, done_not_out, of_batch, of_one, parked_apart}
+use Rattle.book_rules.proofs.Whole.{IsWhole, book_of_whole, broken_of, whole_counts, whole_good, whole_of}
 
 -- the book with a batch committed, before its releases
 abbrev left_in : ℕ → List Held → List Held
@@ -57,25 +57,6 @@ left_in batch held = filter (λ one. not (queue.is_in_batch batch one)) held
 
 abbrev pub committed_book : BookView → ℕ → DockSeen → GateView → BookView
 committed_book book batch seen gate = record book { seen = seen; gate = gate; queue = record (book.queue) { held = left_in batch book.queue.held } }
-
-abbrev of_batch : ℕ → ℕ → Held → Bool
-of_batch batch number one = queue.is_out batch one.place && eqb one.stream number
-
-batch_done : (id : StreamId) (batch : ℕ) (one : Placed) → is_done one.place ≡ true → is_in_batch id batch one ≡ false
-batch_done id batch one done = and_none (is_out batch one.place) (is_of id one) (done_not_out batch one.place done)
-
--- the records of the batch are all of one stream
-of_one : (batch number : ℕ) (held : List Held) → AllByRecursion (λ one. queue.is_in_batch batch one ≡ true → one.stream ≡ number) held → AllByRecursion (λ one. of_batch batch number one ≡ queue.is_in_batch batch one) held
-of_one batch number [] each = tt
-of_one batch number (one ∷ others) each = (at (cases_Bool (queue.is_in_batch batch one)), of_one batch number others each.1)
-  where
-    at : (queue.is_in_batch batch one ≡ true) ⊎ (queue.is_in_batch batch one ≡ false) → of_batch batch number one ≡ queue.is_in_batch batch one
-    at (inl within) = rw (within, eq-eqb one.stream number (each.0 within)) refl
-    at (inr other) = rw other refl
-
-parked_apart : (batch number : ℕ) (parked : Option Held) → IfSome parked (λ one. one.place ≡ queue.Queued) → AllByRecursion (λ one. of_batch batch number one ≡ false) (option_to_list parked)
-parked_apart batch number None is = tt
-parked_apart batch number (Some one) is = (ap (λ place. queue.is_out batch place && eqb one.stream number) is, tt)
 
 filter_none : {A : Type 0} (u : A → Bool) (xs : List A) → AllByRecursion (λ x. u x ≡ false) xs → filter u xs ≡ []
 filter_none u [] none = refl
@@ -172,7 +153,7 @@ batched book m batch number rows distinct planned w own = record {
 
 commit_ran : (book : BookView) (m : Machine) (batch number : ℕ) (rows : List RawRow) (id : StreamId) (now : Option (List Event)) → IsWhole book m → Batched book m batch number rows id → now ≡ told_more (Committed number rows ∷ []) (dock_events book.seen) → Ran book.catalog book.opening book.limits.slots (commits m number id batch rows) [] now
 commit_ran book m batch number rows id now w b added =
-    subst (λ (it : Machine). Ran book.catalog book.opening book.limits.slots it [] now) b.happens_is (ran_act book.catalog book.opening book.limits.slots m (Commit number id batch rows) (Commits number rows) (dock_events book.seen) now w.ran (ap (λ (it : Machine). it.acts) b.happens_is) b.made few (record { event = Committed number rows; added = added; store = refl; opens = refl; is = λ read reads. (refl, refl); over = λ it. sym (or_false it) }))
+    subst (λ (it : Machine). Ran book.catalog book.opening book.limits.slots it [] now) b.happens_is (ran_act book.catalog book.opening book.limits.slots m (Commit number id batch rows) (Commits number rows) (dock_events book.seen) now w.ran (ap (λ (it : Machine). it.acts) b.happens_is) tt b.made few (record { event = Committed number rows; added = added; store = refl; opens = refl; is = λ read reads. (refl, refl); over = λ it. sym (or_false it) }))
   where
     fewer : length (still (move (is_in_batch id batch) Done m.placed)) ≤ book.limits.slots + 1
     fewer =
@@ -225,6 +206,7 @@ commit_whole book m batch number rows id seen gate w b added knows = record {
     batch = w.holds.batch;
     fresh = all_filter (λ one. number_below book.queue.next_batch one.place ≡ true) (λ one. not (queue.is_in_batch batch one)) book.queue.held w.holds.fresh;
     parked = w.holds.parked;
+    alike = λ n. let one = w.holds.alike n in record { stream = one.stream; all = all_filter (λ it. queue.is_in_batch n it ≡ true → it.stream ≡ one.stream) (λ one. not (queue.is_in_batch batch one)) book.queue.held one.all };
     few = w.holds.few;
     statuses_many = w.holds.statuses_many;
     statuses = λ number id named. w.holds.statuses number id named ∙ ap (λ list. Some (last_status id list)) (sym same);
@@ -274,38 +256,38 @@ went_stop : (book : BookView) (m : Machine) (new : BookView) → IsBookOf new m 
 went_stop book m new is = record { steps = []; shaped = tt; leads = is }
 
 -- a commit that failed and stands
-commit_broke : (book : BookView) (m : Machine) (batch number : ℕ) (rows : List RawRow) (id : StreamId) (seen : DockSeen) (stop : Status) → IsWhole book m → Batched book m batch number rows id → dock_events seen ≡ told_more (Committed number rows ∷ []) (dock_events book.seen) → IsBookOf (broke (record book { seen = seen }) stop) (commits m number id batch rows)
-commit_broke book m batch number rows id seen stop w b added =
-    broken_of (broke (record book { seen = seen }) stop) (commits m number id batch rows) [] stop refl (commit_ran book m batch number rows id (dock_events seen) w b added) (record {
+commit_broke : (book : BookView) (m : Machine) (batch number : ℕ) (rows : List RawRow) (id : StreamId) (seen : DockSeen) → IsWhole book m → Batched book m batch number rows id → dock_events seen ≡ told_more (Committed number rows ∷ []) (dock_events book.seen) → IsBookOf (broke (record book { seen = seen }) status.StoreFault) (commits m number id batch rows)
+commit_broke book m batch number rows id seen w b added =
+    broken_of (broke (record book { seen = seen }) status.StoreFault) (commits m number id batch rows) [] status.StoreFault refl (commit_ran book m batch number rows id (dock_events seen) w b added) (record {
       lines = w.tallied.lines ∙ ap (λ list. length list + 0) (sym same);
       most = w.tallied.most;
       records = w.tallied.records ∙ ap (λ list. length (entries list)) (sym same);
       lanes = w.tallied.lanes ∙ ap lanes_among (sym same);
-      emitted = counts_any stop book.tally.emitted (length (filter_map state_echoed (m.acts ++ Commits number rows ∷ []))) (ap (λ list. length list) (commit_echoed m.acts number rows) ∙ counts_of_none book.tally.broken book.tally.emitted (length (filter_map state_echoed m.acts)) w.whole w.tallied.emitted);
+      emitted = counts_any status.StoreFault book.tally.emitted (length (filter_map state_echoed (m.acts ++ Commits number rows ∷ []))) (ap (λ list. length list) (commit_echoed m.acts number rows) ∙ counts_of_none book.tally.broken book.tally.emitted (length (filter_map state_echoed m.acts)) w.whole w.tallied.emitted);
       ended = commit_ends m.acts number rows ∙ w.tallied.ended;
-    })
+    }) (let c = whole_counts book m w in record { within = c.within; committed_are = inr (record { front = m.acts; number = number; rows = rows; splits = refl; count_is = c.committed_is }) }) tt
   where
     same : taken (m.acts ++ Commits number rows ∷ []) ≡ taken m.acts
     same = commit_taken m.acts number rows
 
-went_lacks : (book : BookView) (m : Machine) (stop : Status) (batch : ℕ) (new : BookView) → IsWhole book m → Stops {T = Unit {0}} stop batch (Err fault.NoMemory) book new → Went IsPutRun book.catalog new m
-went_lacks book m stop batch new w s = went_as IsPutRun book.catalog (broke (record book { seen = s.2 }) stop) new m s.5 (went_stop book m (broke (record book { seen = s.2 }) stop) (broke_still book m s.2 stop w s.4.events))
+went_lacks : (book : BookView) (m : Machine) (stop : Status) (batch : ℕ) (new : BookView) → IsWhole book m → ((poll : PollKind) → BrokeBy (ids book) book.tally.lines poll m.acts [] stop) → Stops {T = Unit {0}} stop batch (Err fault.NoMemory) book new → Went IsPutRun book.catalog new m
+went_lacks book m stop batch new w why s = went_as IsPutRun book.catalog (broke (record book { seen = s.2 }) stop) new m s.5 (went_stop book m (broke (record book { seen = s.2 }) stop) (broke_still book m s.2 stop w s.4.events (why s.2.face.poll)))
 
-went_fails : (book : BookView) (m : Machine) (stop : Status) (batch : ℕ) (new : BookView) → AreDistinct (ids book) → PlansFit book.catalog book.opening.plan → IsWhole book m → Stops {T = Unit {0}} stop batch (Err fault.Failed) book new → Went IsPutRun book.catalog new m
-went_fails book m stop batch new distinct planned w s = went_as IsPutRun book.catalog (broke (record book { seen = s.2 }) stop) new m s.5 (at s.4.events)
+went_fails : (book : BookView) (m : Machine) (batch : ℕ) (new : BookView) → AreDistinct (ids book) → PlansFit book.catalog book.opening.plan → IsWhole book m → Stops {T = Unit {0}} status.StoreFault batch (Err fault.Failed) book new → Went IsPutRun book.catalog new m
+went_fails book m batch new distinct planned w s = went_as IsPutRun book.catalog (broke (record book { seen = s.2 }) status.StoreFault) new m s.5 (at s.4.events)
   where
     b : Batched book m batch s.0 s.1 s.3.planned.stream.id
     b = batched book m batch s.0 s.1 distinct planned w s.3
 
-    at : (dock_events s.2 ≡ dock_events book.seen) ⊎ (dock_events s.2 ≡ told_more (Committed s.0 s.1 ∷ []) (dock_events book.seen)) → Went IsPutRun book.catalog (broke (record book { seen = s.2 }) stop) m
-    at (inl same) = went_stop book m (broke (record book { seen = s.2 }) stop) (broke_still book m s.2 stop w same)
-    at (inr added) = record { steps = Commit s.0 s.3.planned.stream.id batch s.1 ∷ []; shaped = tt; leads = subst (IsBookOf (broke (record book { seen = s.2 }) stop)) (sym b.happens_is) (commit_broke book m batch s.0 s.1 s.3.planned.stream.id s.2 stop w b added) }
+    at : (dock_events s.2 ≡ dock_events book.seen) ⊎ (dock_events s.2 ≡ told_more (Committed s.0 s.1 ∷ []) (dock_events book.seen)) → Went IsPutRun book.catalog (broke (record book { seen = s.2 }) status.StoreFault) m
+    at (inl same) = went_stop book m (broke (record book { seen = s.2 }) status.StoreFault) (broke_still book m s.2 status.StoreFault w same tt)
+    at (inr added) = record { steps = Commit s.0 s.3.planned.stream.id batch s.1 ∷ []; shaped = tt; leads = subst (IsBookOf (broke (record book { seen = s.2 }) status.StoreFault)) (sym b.happens_is) (commit_broke book m batch s.0 s.1 s.3.planned.stream.id s.2 w b added) }
 
 went_breaks : (book : BookView) (m : Machine) (stop : Status) (batch : ℕ) (new : BookView) → AreDistinct (ids book) → PlansFit book.catalog book.opening.plan → IsWhole book m → BreaksPut stop batch book new → Went IsPutRun book.catalog new m
-went_breaks book m status.NoMemory batch new distinct planned w (inl lacks) = went_as IsPutRun book.catalog (broke book status.NoMemory) new m lacks (went_stop book m (broke book status.NoMemory) (broke_still book m book.seen status.NoMemory w refl))
-went_breaks book m status.NoMemory batch new distinct planned w (inr (inl s)) = went_lacks book m status.NoMemory batch new w s
+went_breaks book m status.NoMemory batch new distinct planned w (inl lacks) = went_as IsPutRun book.catalog (broke book status.NoMemory) new m lacks (went_stop book m (broke book status.NoMemory) (broke_still book m book.seen status.NoMemory w refl tt))
+went_breaks book m status.NoMemory batch new distinct planned w (inr (inl s)) = went_lacks book m status.NoMemory batch new w (λ poll. tt) s
 went_breaks book m status.NoMemory batch new distinct planned w (inr (inr c)) = went_commits book m batch (Err fault.NoMemory) new distinct planned w c
-went_breaks book m status.StoreFault batch new distinct planned w s = went_fails book m status.StoreFault batch new distinct planned w s
+went_breaks book m status.StoreFault batch new distinct planned w s = went_fails book m batch new distinct planned w s
 went_breaks book m status.WriteFault batch new distinct planned w c = went_commits book m batch (Err fault.Failed) new distinct planned w c
 went_breaks book m _ batch new distinct planned w none = absurd none
 

@@ -2,21 +2,22 @@
 use Rattle.std.proofs.Common.{◌≡◌, ℕ, List, [], Option, None, Some, Result, Ok, Err, refl, sym, ◌∙◌, ap, subst, length}
 use Rattle.std.specs.Prelude.{IfSome}
 use Rattle.basics.specs.declared.memory.NoMemory.{NoMemory}
-use Rattle.outside.specs.Dock.{DockSeen, TakesFrom, TakesLine, TakesOutput, dock_events, with_hand}
+use Rattle.outside.specs.Dock.{DockSeen, TakesFrom, dock_events, with_hand}
 use Rattle.outside.specs.Hand.{Hand, hand_closed, hand_pushed}
+use Rattle.outside.specs.declared.link.PollKind.{PollKind}
 use Rattle.outside.specs.declared.event.Event.{Event}
 use Rattle.load_rules.specs.Machine.{Machine}
 use Rattle.load_rules.specs.SafeDest.{IsSafeDest}
 use Rattle.load_rules.specs.Bounded.{AreBounded}
-use Rattle.book_rules.specs.Books.{IsBook, IsBookOf, IsNoRun, KeepsSafe, OwnLoadIsSafe, Runs, RunsTo, Tells}
+use Rattle.book_rules.specs.Books.{BrokeBy, IsBook, IsBookOf, IsNoRun, KeepsSafe, OwnLoadIsSafe, Runs, Tells}
 use Rattle.book_rules.specs.Hands.{PushAnswer, TakeOutputAnswer, closed, with_seen}
 use Rattle.book_rules.specs.Laws.{CloseKeeps, HandKeeps, PushKeeps, TakeOutputKeeps}
-use Rattle.book_rules.specs.Views.{BookView}
+use Rattle.book_rules.specs.Views.{BookView, ids}
 use Rattle.book_rules.proofs.Lists.{some_is}
 use Rattle.book_rules.proofs.Safe.{own_is_safe}
 
-reseen_of : (book : BookView) (m : Machine) (seen : DockSeen) → dock_events seen ≡ dock_events book.seen → IsBookOf book m → IsBookOf (with_seen seen book) m
-reseen_of book m seen same is = record {
+reseen_of : (book : BookView) (m : Machine) (seen : DockSeen) → dock_events seen ≡ dock_events book.seen → seen.face.poll ≡ book.seen.face.poll → IsBookOf book m → IsBookOf (with_seen seen book) m
+reseen_of book m seen same poll_is is = record {
   reached = record {
     steps = is.reached.steps;
     runs = is.reached.runs;
@@ -27,6 +28,9 @@ reseen_of book m seen same is = record {
     used = is.reached.used;
     told = subst (λ (events : Option (List Event)). IfSome events (Tells book.opening m.acts is.reached.unused)) (sym same) is.reached.told;
     tallied = is.reached.tallied;
+    good = is.reached.good;
+    why = subst (λ (poll : PollKind). IfSome book.tally.broken (BrokeBy (ids book) book.tally.lines poll m.acts is.reached.unused)) (sym poll_is) is.reached.why;
+    counted = is.reached.counted;
   };
   holds = λ none. let h = is.holds none in record {
     content = h.content;
@@ -49,6 +53,7 @@ reseen_of book m seen same is = record {
     batch = h.batch;
     fresh = h.fresh;
     parked = h.parked;
+    alike = h.alike;
     few = h.few;
     statuses_many = h.statuses_many;
     statuses = h.statuses;
@@ -56,16 +61,16 @@ reseen_of book m seen same is = record {
   quiet = is.quiet;
 }
 
-seen_keeps : (old : BookView) (seen : DockSeen) → dock_events seen ≡ dock_events old.seen → seen.face.side_marks ≡ old.seen.face.side_marks → IsBook old → HandKeeps old (with_seen seen old)
-seen_keeps old seen same marks is = record {
+seen_keeps : (old : BookView) (seen : DockSeen) → dock_events seen ≡ dock_events old.seen → seen.face.side_marks ≡ old.seen.face.side_marks → seen.face.poll ≡ old.seen.face.poll → IsBook old → HandKeeps old (with_seen seen old)
+seen_keeps old seen same marks poll is = record {
   book = book;
-  runs = λ m of. record { steps = []; shaped = tt; leads = reseen_of old m seen same of };
+  runs = λ m of. record { steps = []; shaped = tt; leads = reseen_of old m seen same poll of };
   own = own_is_safe (with_seen seen old) book;
   safe = safe;
 }
   where
     book : IsBook (with_seen seen old)
-    book = record { configured = is.configured; planned = is.planned; as_many = ap (λ (list : List ℕ). length list) marks ∙ is.as_many; queue_streams = is.queue_streams; machine = is.machine; is = reseen_of old is.machine seen same is.is }
+    book = record { configured = is.configured; planned = is.planned; as_many = ap (λ (list : List ℕ). length list) marks ∙ is.as_many; queue_streams = is.queue_streams; limits_are = is.limits_are; slots = is.slots; bytes = is.bytes; batch = is.batch; parked_small = is.parked_small; machine = is.machine; is = reseen_of old is.machine seen same poll is.is }
 
     safe : KeepsSafe old (with_seen seen old)
     safe read before now first second reads =
@@ -76,24 +81,25 @@ hand_keeps_as : (old mid new : BookView) → new ≡ mid → HandKeeps old mid �
 hand_keeps_as old mid new same keeps = subst (HandKeeps old) (sym same) keeps
 
 pub push_keeps : PushKeeps
-push_keeps (Ok done) line old new is answer = hand_keeps_as old (with_seen (with_hand (hand_pushed line) old.seen) old) new answer (seen_keeps old (with_hand (hand_pushed line) old.seen) refl refl is)
-push_keeps (Err why) line old new is answer = hand_keeps_as old old new answer (seen_keeps old old.seen refl refl is)
+push_keeps (Ok done) line old new is answer = hand_keeps_as old (with_seen (with_hand (hand_pushed line) old.seen) old) new answer (seen_keeps old (with_hand (hand_pushed line) old.seen) refl refl refl is)
+push_keeps (Err why) line old new is answer = hand_keeps_as old old new answer (seen_keeps old old.seen refl refl refl is)
 
 pub close_keeps : CloseKeeps
-close_keeps torn old new is answer = hand_keeps_as old (closed torn old) new answer (seen_keeps old (with_hand (hand_closed torn) old.seen) refl refl is)
+close_keeps torn old new is answer = hand_keeps_as old (closed torn old) new answer (seen_keeps old (with_hand (hand_closed torn) old.seen) refl refl refl is)
 
 record SeenSame (old new : DockSeen) : Type 0 where
   events : dock_events new ≡ dock_events old
   marks : new.face.side_marks ≡ old.face.side_marks
+  poll : new.face.poll ≡ old.face.poll
 
 taken_same : (hand : Option Hand) (given : Option (List ℕ)) (old new : DockSeen) → TakesFrom hand given old new → SeenSame old new
-taken_same None given old new same = record { events = ap dock_events same; marks = ap (λ (it : DockSeen). it.face.side_marks) same }
-taken_same (Some hand) given old new takes = record { events = ap dock_events takes.seen; marks = ap (λ (it : DockSeen). it.face.side_marks) takes.seen }
+taken_same None given old new same = record { events = ap dock_events same; marks = ap (λ (it : DockSeen). it.face.side_marks) same; poll = ap (λ (it : DockSeen). it.face.poll) same }
+taken_same (Some hand) given old new takes = record { events = ap dock_events takes.seen; marks = ap (λ (it : DockSeen). it.face.side_marks) takes.seen; poll = ap (λ (it : DockSeen). it.face.poll) takes.seen }
 
 pub take_output_keeps : TakeOutputKeeps
 take_output_keeps given old new is answer =
     let same = taken_same old.seen.face.hand given old.seen new.seen answer.output in
-    hand_keeps_as old (with_seen new.seen old) new answer.rest (seen_keeps old new.seen same.events same.marks is)
+    hand_keeps_as old (with_seen new.seen old) new answer.rest (seen_keeps old new.seen same.events same.marks same.poll is)
 
 -- The same, clause by clause, as a book's calls cite them.
 

@@ -1,28 +1,25 @@
 -- The states that wait: what may go by the machine may go by the gate.
-use Rattle.std.proofs.Common.{arith, ◌≡◌, ◌⊎◌, inl, inr, ℕ, ◌+◌, ◌-◌, ◌<◌, ◌≤◌, eqb, ltb, List, [], ◌∷◌, ◌++◌, map, length, Option, None, Some, Bool, true, false, cond, refl, sym, ◌∙◌, ap, subst, append_assoc, length-append}
-use Rattle.std.specs.Prelude.{filter, not, ◌&&◌, ◌||◌, slice_get, nat_lt, find}
+use Rattle.std.proofs.Common.{arith, ◌≡◌, ◌⊎◌, inl, inr, ℕ, ◌+◌, ◌≤◌, eqb, List, [], ◌∷◌, ◌++◌, map, length, Option, None, Some, Bool, true, false, refl, sym, ◌∙◌, ap}
+use Rattle.std.specs.Prelude.{filter, not, ◌&&◌, slice_get, nat_lt, find}
 use Rattle.std.specs.List.{AllByRecursion, list_any, list_all}
 use Rattle.std.proofs.lemmas.List.{append-nil}
 use Rattle.std.proofs.lemmas.List.Elements.{filter-append}
-use Rattle.std.proofs.lemmas.Bool.{cases_Bool, cases_eq, eq-eqb, ne_eqb, false≢true, lt-ltb, le-ltb}
+use Rattle.std.proofs.lemmas.Bool.{cases_Bool, cases_eq, eq-eqb, ne_eqb, lt-ltb, le-ltb}
 use Rattle.basics.specs.declared.stream.StreamId.{StreamId}
-use Rattle.outside.specs.Tables.{same_id}
 use Rattle.stream_index.specs.Distinct.{AreDistinct}
 use Rattle.airbyte_message.specs.Lanes.{Lane}
 use Rattle.airbyte_message.specs.Lanes as lanes
-use Rattle.airbyte_message.specs.declared.message.RecordMsg.{RecordMsg}
 use Rattle.book_queue.specs.Content.{Held}
 use Rattle.state_gate.specs.Content as gate
-use Rattle.state_gate.specs.declared.pending.Accepted.{Accepted}
 use Rattle.state_gate.specs.declared.pending.Lane.{Lane as GateLane}
 use Rattle.state_gate.specs.declared.pending.Lane.TheVariants as gate_lane
 use Rattle.state_gate.specs.declared.pending.Waiting.{Waiting}
-use Rattle.load_rules.specs.Acts.{Act, taken, committed}
+use Rattle.load_rules.specs.Acts.{taken, committed}
 use Rattle.load_rules.specs.Lines.{Line}
 use Rattle.load_rules.specs.Prefixes.{IsPrefix}
-use Rattle.load_rules.specs.Taken.{Entry, LaneState, entries, entries_from, covers, covered, is_in}
+use Rattle.load_rules.specs.Taken.{Entry, LaneState, entries, entries_from, covers, is_in}
 use Rattle.load_rules.specs.Machine.{Machine, Placed, entry_of, is_done, is_releasable, without_first}
-use Rattle.load_rules.proofs.Machines.{IsGood, IsMarked, Rising, numbered_placed, prefix_on}
+use Rattle.load_rules.proofs.Machines.{IsGood, IsMarked, Rising, prefix_on}
 use Rattle.load_rules.proofs.TakenLists.{Numbered, numbered, entries-append}
 use Rattle.book_rules.specs.Holds.{IsHeld, AreHeld, IsLane, IsWaiting, AreWaiting, still, accepted_of}
 use Rattle.book_rules.proofs.Lists.{any_filter}

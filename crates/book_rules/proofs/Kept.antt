@@ -1,33 +1,32 @@
 -- Each call makes a book of a book, by a run of the machine.
-use Rattle.std.proofs.Common.{arith, ◌≡◌, ◌≢◌, ℕ, ◌+◌, ◌<◌, ◌≤◌, ◌^◌, List, [], ◌∷◌, ◌++◌, map, length, Option, None, Some, Bool, true, false, Result, Ok, Err, refl, sym, ◌∙◌, ap, subst, length-append}
-use Rattle.std.specs.Prelude.{option_map}
+use Rattle.std.proofs.Common.{arith, ◌≡◌, ◌≢◌, ℕ, ◌+◌, ◌≤◌, List, [], ◌∷◌, length, Option, None, Some, Result, sym, ◌∙◌, ap, subst}
 use Rattle.std.specs.List.{AllByRecursion}
 use Rattle.basics.specs.declared.memory.NoMemory.{NoMemory}
 use Rattle.basics.specs.declared.stream.StreamId.{StreamId}
 use Rattle.catalog.specs.Configured.{AreConfigured}
 use Rattle.catalog.specs.declared.stream.ConfStream.{ConfStream}
-use Rattle.stream_index.specs.Distinct.{AreDistinct}
 use Rattle.airbyte_message.specs.Lanes.{Lane, lane_of}
 use Rattle.airbyte_message.specs.State.{State}
 use Rattle.airbyte_message.specs.declared.message.StateKind.{StateKind}
 use Rattle.airbyte_message.specs.declared.message.StateKind.TheVariants.{Legacy}
 use Rattle.batch_prep.specs.Items.{Batch}
 use Rattle.batch_prep.specs.declared.item.WorkItem.{WorkItem}
-use Rattle.outside.specs.Dock.{DockGrew, DockMoves, DockSeen, dock_events}
-use Rattle.outside.specs.declared.event.StreamPlan.{StreamPlan}
+use Rattle.outside.specs.Dock.{DockGrew, DockMoves}
+use Rattle.outside.specs.Limits.{AreLimits}
+use Rattle.outside.specs.declared.load.Limits.{Limits}
 use Rattle.load_rules.specs.Acts.{taken}
 use Rattle.load_rules.specs.Engine.{PlansFit}
 use Rattle.load_rules.specs.Lines.{Line, record_in}
 use Rattle.load_rules.specs.Loads.{Opening}
 use Rattle.load_rules.specs.Machine.{Machine, Step, run}
-use Rattle.load_rules.specs.Taken.{LaneState, and_record, entries, entries_from}
+use Rattle.load_rules.specs.Taken.{LaneState, and_record, entries_from}
 use Rattle.state_gate.specs.declared.pending.Waiting.{Waiting}
 use Rattle.airbyte_message.specs.declared.message.RecordMsg.{RecordMsg}
 use Rattle.book_rules.specs.declared.answer.Accepted.{Accepted}
 use Rattle.book_rules.specs.declared.answer.Put.{Put}
 use Rattle.book_rules.specs.Accepts.{AcceptAnswer}
-use Rattle.book_rules.specs.Books.{IsAcceptRun, IsBook, IsBookOf, IsGiveBackRun, IsPickRun, IsPutRun, IsRecallRun, KeepsSafe, OwnLoadIsSafe, Runs, RunsTo}
-use Rattle.book_rules.specs.Holds.{AreWaiting, CanPut, CanRelease, HasKind, IsReady, IsWaiting}
+use Rattle.book_rules.specs.Books.{IsAcceptRun, IsBook, IsGiveBackRun, IsPickRun, IsPutRun, IsRecallRun, KeepsSafe, OwnLoadIsSafe, Runs}
+use Rattle.book_rules.specs.Holds.{AreWaiting, CanPut, HasKind, IsReady}
 use Rattle.book_rules.specs.Laws.{AcceptKeeps, BooksAreReady, BooksAreSafe, BooksCanPut, GiveBackKeeps, Keeps, PickKeeps, PutKeeps, RecallKeeps}
 use Rattle.book_rules.specs.Puts.{GiveBackAnswer, PickAnswer, PutAnswer, recalled}
 use Rattle.book_rules.specs.Views.{BookView, ids}
@@ -47,7 +46,12 @@ kept shape old new is stays runs =
       configured = subst (λ (streams : List ConfStream). AreConfigured streams) (sym stays.catalog) is.configured;
       planned = subst (λ (opening : Opening). PlansFit new.catalog opening.plan) (sym stays.opening) (subst (λ (streams : List ConfStream). PlansFit streams old.opening.plan) (sym stays.catalog) is.planned);
       as_many = ap (λ (marks : List ℕ). length marks) stays.seen.side_marks ∙ (is.as_many ∙ ap (λ (streams : List ConfStream). length streams) (sym stays.catalog));
-      queue_streams = stays.streams ∙ (is.queue_streams ∙ ap (λ (streams : List ConfStream). length streams) (sym stays.catalog));
+      queue_streams = stays.queue.streams ∙ (is.queue_streams ∙ ap (λ (streams : List ConfStream). length streams) (sym stays.catalog));
+      limits_are = subst AreLimits (sym stays.limits) is.limits_are;
+      slots = stays.queue.slots ∙ (is.slots ∙ ap (λ (it : Limits). it.slots) (sym stays.limits));
+      bytes = stays.queue.bytes ∙ (is.bytes ∙ ap (λ (it : Limits). it.bytes) (sym stays.limits));
+      batch = stays.queue.batch ∙ (is.batch ∙ ap (λ (it : Limits). it.batch) (sym stays.limits));
+      parked_small = stays.queue.small is.parked_small;
       machine = run old.catalog went.steps is.machine;
       is = went.leads;
     }
@@ -67,7 +71,7 @@ pub put_keeps : PutKeeps
 put_keeps done result old new is answer = keeps IsPutRun old new is (put_stays done result old new answer) (committing.put_runs done result old new is.configured.distinct is.planned answer)
 
 pub give_back_keeps : GiveBackKeeps
-give_back_keeps item result old new is answer = keeps (IsGiveBackRun item.batch) old new is (give_back_stays item result old new answer) (batching.give_back_runs item result old new answer)
+give_back_keeps item result old new is answer = keeps (IsGiveBackRun item.batch) old new is (give_back_stays item result old new answer) (batching.give_back_runs item result old new is.configured.distinct answer)
 
 pub recall_keeps : RecallKeeps
 recall_keeps old new is answer = keeps IsRecallRun old new is (recall_stays old new answer) (batching.recall_runs old new answer)
@@ -224,3 +228,6 @@ recall_own old new is answer = (recall_keeps old new is answer).own
 
 pub recall_safe : (old new : BookView) → IsBook old → new ≡ recalled old → KeepsSafe old new
 recall_safe old new is answer = (recall_keeps old new is answer).safe
+
+pub book_streams : (book : BookView) → IsBook book → book.queue.streams ≡ length book.catalog
+book_streams book is = is.queue_streams

@@ -1,6 +1,7 @@
 pub mod Lists
 pub mod Moves
 pub mod Acts
+pub mod Counting
 pub mod Whole
 pub mod Sealing
 pub mod Heads

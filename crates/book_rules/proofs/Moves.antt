@@ -1,17 +1,17 @@
 -- Places: what a move in the queue is in the machine.
-use Rattle.std.proofs.Common.{arith, ◌≡◌, ◌⊎◌, inl, inr, ℕ, ◌+◌, ◌-◌, ◌<◌, ◌≤◌, eqb, ltb, List, [], ◌∷◌, ◌++◌, map, length, Option, None, Some, Bool, true, false, cond, refl, sym, ◌∙◌, ap, subst, append_assoc, length-append}
+use Rattle.std.proofs.Common.{arith, ◌≡◌, ◌⊎◌, inl, inr, ℕ, ◌-◌, ◌≤◌, eqb, List, [], ◌∷◌, ◌++◌, map, length, Some, Bool, true, false, cond, refl, sym, ◌∙◌, ap}
 use Rattle.std.specs.Prelude.{filter, not, ◌&&◌, ◌||◌, slice_get, nat_lt}
-use Rattle.std.specs.List.{AllByRecursion, list_any}
-use Rattle.std.proofs.lemmas.Bool.{and_parts, cases_Bool, cases_eq, eq-eqb, ne_eqb, eqb-true, false≢true, false_from_ne_true, lt-ltb}
+use Rattle.std.specs.List.{AllByRecursion}
+use Rattle.std.proofs.lemmas.List.Elements.{filter-append}
+use Rattle.std.proofs.lemmas.Bool.{cases_Bool, cases_eq, eq-eqb, ne_eqb, false_from_ne_true, lt-ltb}
 use Rattle.basics.specs.declared.stream.StreamId.{StreamId}
 use Rattle.outside.specs.Tables.{same_id}
 use Rattle.outside.proofs.TableLaws.{id_own, id_is}
 use Rattle.stream_index.specs.Distinct.{AreDistinct}
 use Rattle.book_queue.specs.Content.{Held}
 use Rattle.book_queue.specs.Content as queue
-use Rattle.state_gate.specs.declared.pending.Accepted.{Accepted}
 use Rattle.load_rules.specs.Taken.{Entry}
-use Rattle.load_rules.specs.Machine.{Place, Queued, Sealed, Out, Done, Placed, is_out, is_sealed, is_queued, is_done, is_of, is_queued_of, is_sealed_of, is_in_batch, put_in, move, move_first, entry_of}
+use Rattle.load_rules.specs.Machine.{queue as queue_of, Place, Done, Placed, is_out, is_sealed, is_queued, is_done, is_of, is_queued_of, is_sealed_of, is_in_batch, put_in, move, move_first}
 use Rattle.book_rules.specs.Holds.{IsHeld, AreHeld, place_of, still, accepted_of}
 use Rattle.book_rules.proofs.Lists.{some_is}
 
@@ -262,3 +262,20 @@ move_first_all t place n (one ∷ more) enough = at (cases_Bool (t one)) (move_f
     at : (t one ≡ true) ⊎ (t one ≡ false) → move_first t place n more ≡ move t place more → move_first t place (n - 1) more ≡ move t place more → move_first t place n (one ∷ more) ≡ move t place (one ∷ more)
     at (inl passes) same less = rw (passes, some, less) refl
     at (inr fails) same less = rw (fails, same) refl
+
+pub length_first_placed : (t : Placed → Bool) (place : Place) (n : ℕ) (placed : List Placed) → length (move_first t place n placed) ≡ length placed
+length_first_placed t place n [] = refl
+length_first_placed t place n (one ∷ more) = at (t one && nat_lt 0 n) (length_first_placed t place n more) (length_first_placed t place (n - 1) more)
+  where
+    at : (b : Bool) → length (move_first t place n more) ≡ length more → length (move_first t place (n - 1) more) ≡ length more → length (cond b (put_in place one ∷ move_first t place (n - 1) more) (one ∷ move_first t place n more)) ≡ length (one ∷ more)
+    at true same less = grind (arith, less)
+    at false same less = grind (arith, same)
+
+-- records that are queued
+
+queued_open : (list : List Entry) → filter (λ (one : Placed). not (is_done one.place)) (map queue_of list) ≡ map queue_of list
+queued_open [] = refl
+queued_open (entry ∷ more) = ap (λ list. queue_of entry ∷ list) (queued_open more)
+
+pub still_more : (placed : List Placed) (list : List Entry) → still (placed ++ map queue_of list) ≡ still placed ++ map queue_of list
+still_more placed list = filter-append (λ (one : Placed). not (is_done one.place)) placed (map queue_of list) ∙ ap (λ more. still placed ++ more) (queued_open list)

@@ -1,10 +1,8 @@
 -- What each call leaves as it was, and what it moves in the dock.
-use Rattle.std.proofs.Common.{◌≡◌, ◌⊎◌, inl, inr, ℕ, zero, suc, List, [], ◌∷◌, ◌++◌, length, Option, None, Some, Bool, true, false, cond, Result, Ok, Err, refl, sym, ◌∙◌, ap, subst, append_assoc}
-use Rattle.std.specs.Prelude.{◌+◌, ◌^◌, filter_map, nat_lt}
-use Rattle.std.specs.List.{AllByRecursion}
+use Rattle.std.proofs.Common.{◌≡◌, inl, inr, ℕ, zero, suc, List, ◌++◌, length, Option, None, Some, Bool, true, false, Result, Ok, Err, refl, sym, ◌∙◌, ap, subst, append_assoc}
+use Rattle.std.specs.Prelude.{◌+◌, ◌≤◌, ◌^◌, filter_map, nat_lt}
 use Rattle.std.proofs.lemmas.List.Elements.{filter_map-append}
-use Rattle.basics.specs.Told.{told_more}
-use Rattle.catalog.specs.declared.stream.ConfStream.{ConfStream}
+use Rattle.basics.specs.declared.limits.TheConstants.{LONGEST_LINE}
 use Rattle.airbyte_message.specs.Lanes.{Lane, lane_of}
 use Rattle.airbyte_message.specs.Lanes as lanes
 use Rattle.airbyte_message.specs.State.{State}
@@ -12,7 +10,7 @@ use Rattle.airbyte_message.specs.declared.message.Message.{Message}
 use Rattle.airbyte_message.specs.declared.message.Message.TheVariants as message
 use Rattle.batch_prep.specs.Items.{Batch}
 use Rattle.batch_prep.specs.declared.item.WorkItem.{WorkItem}
-use Rattle.outside.specs.Dock.{DockFace, DockGrew, DockMoves, DockSeen, dock_events}
+use Rattle.outside.specs.Dock.{DockFace, DockGrew, DockMoves, DockSeen, IsWithinLimit, dock_events}
 use Rattle.outside.specs.Event.{emitted_in, took_in}
 use Rattle.outside.specs.Hand.{Hand, HandMoved, HandMoves, unread}
 use Rattle.outside.specs.declared.event.Event.{Event}
@@ -30,15 +28,15 @@ use Rattle.book_queue.specs.Content.{Held, QueueView}
 use Rattle.state_gate.specs.declared.pending.Lane.{Lane as GateLane}
 use Rattle.state_gate.specs.declared.pending.Lane.TheVariants as gate_lane
 use Rattle.load_rules.specs.Lines.{Status as Told, status_told}
-use Rattle.load_rules.specs.Loads.{Opening}
 use Rattle.book_rules.specs.declared.answer.Accepted.{Accepted}
 use Rattle.book_rules.specs.declared.answer.Lanes.{Lanes}
 use Rattle.book_rules.specs.declared.answer.Put.{Put}
 use Rattle.book_rules.specs.declared.answer.Put.TheVariants as put
-use Rattle.book_rules.specs.Accepts.{AcceptAnswer, AnswersUnless, Breaks, GoesOn, MakesRoom, Notes, Reads, Takes, TakesCounted, TakesFound, TakesLine, TakesMessage, TakesNext, TakesRecord, TakesRecordOf, TakesState, TakesStateBy, TakesStateIn, TakesStateOf, TakesStateUnless, TakesStatus, Unparks, is_other, lanes_of, pushed, sealed_by, unparks, with_line}
+use Rattle.book_rules.specs.Accepts.{AcceptAnswer, AnswersUnless, Breaks, GoesOn, Notes, Takes, TakesCounted, TakesFound, TakesLine, TakesMessage, TakesRecord, TakesRecordOf, TakesState, TakesStateBy, TakesStateIn, TakesStateOf, TakesStateUnless, TakesStatus, Unparks, is_other, lanes_of, pushed, sealed_by, unparks, with_line}
+use Rattle.book_rules.specs.Books.{IsSmall}
 use Rattle.book_rules.specs.Docks.{Emits, Polls}
-use Rattle.book_rules.specs.Puts.{BreaksPut, BrokenPut, Commits, CommitsRows, GiveBackAnswer, PickAnswer, Picks, PutAnswer, Stops, recalled}
-use Rattle.book_rules.specs.Releases.{Point, ReleaseAnswer, Released, ReleasesAll, ReleasesSome, ReleasesTo, StopsBy}
+use Rattle.book_rules.specs.Puts.{BreaksPut, BrokenPut, Commits, CommitsRows, GiveBackAnswer, PickAnswer, PutAnswer, Stops, recalled}
+use Rattle.book_rules.specs.Releases.{Point, ReleaseAnswer, ReleasesTo, StopsBy}
 use Rattle.book_rules.specs.Views.{BookView}
 
 -- Moves in a row
@@ -105,53 +103,64 @@ releases_stay (Err stop) old new r = seen_both old.seen r.last.seen new.seen (re
 
 -- Books
 
+-- the queue's limits stay, and a record that waits for room is no longer than a line may be
+pub record QueueStays (old new : QueueView) : Type 0 where
+  pub streams : new.streams ≡ old.streams
+  pub slots : new.slots ≡ old.slots
+  pub bytes : new.bytes ≡ old.bytes
+  pub batch : new.batch ≡ old.batch
+  pub small : IsSmall old.parked → IsSmall new.parked
+
 -- what the book was opened with stays
 pub record Stays (old new : BookView) : Type 0 where
   pub catalog : new.catalog ≡ old.catalog
   pub opening : new.opening ≡ old.opening
   pub limits : new.limits ≡ old.limits
-  pub streams : new.queue.streams ≡ old.queue.streams
+  pub queue : QueueStays old.queue new.queue
   pub seen : SeenStays old.seen new.seen
 
 stays_as : (old mid new : BookView) → new ≡ mid → Stays old mid → Stays old new
 stays_as old mid new same s = subst (Stays old) (sym same) s
 
 pub stays_same : (old new : BookView) → new ≡ old → Stays old new
-stays_same old new same = stays_as old old new same (record { catalog = refl; opening = refl; limits = refl; streams = refl; seen = seen_same old.seen })
+stays_same old new same = stays_as old old new same (record { catalog = refl; opening = refl; limits = refl; queue = record { streams = refl; slots = refl; bytes = refl; batch = refl; small = λ small. small }; seen = seen_same old.seen })
+
+queue_both : (a b c : QueueView) → QueueStays a b → QueueStays b c → QueueStays a c
+queue_both a b c one two = record { streams = two.streams ∙ one.streams; slots = two.slots ∙ one.slots; bytes = two.bytes ∙ one.bytes; batch = two.batch ∙ one.batch; small = λ small. two.small (one.small small) }
 
 stays_both : (a b c : BookView) → Stays a b → Stays b c → Stays a c
-stays_both a b c one two = record { catalog = two.catalog ∙ one.catalog; opening = two.opening ∙ one.opening; limits = two.limits ∙ one.limits; streams = two.streams ∙ one.streams; seen = seen_both a.seen b.seen c.seen one.seen two.seen }
+stays_both a b c one two = record { catalog = two.catalog ∙ one.catalog; opening = two.opening ∙ one.opening; limits = two.limits ∙ one.limits; queue = queue_both a.queue b.queue c.queue one.queue two.queue; seen = seen_both a.seen b.seen c.seen one.seen two.seen }
 
 breaks_stay : (stop : Status) (result : Accepted) (old new : BookView) → Breaks stop result old new → Stays old new
-breaks_stay stop result old new r = stays_as old _ new r.is (record { catalog = refl; opening = refl; limits = refl; streams = refl; seen = seen_same old.seen })
+breaks_stay stop result old new r = stays_as old _ new r.is (record { catalog = refl; opening = refl; limits = refl; queue = record { streams = refl; slots = refl; bytes = refl; batch = refl; small = λ small. small }; seen = seen_same old.seen })
 
-pushed_streams : (fits : Bool) (stream seq : ℕ) (line : List ℕ) (queue : QueueView) → (pushed fits stream seq line queue).streams ≡ queue.streams
-pushed_streams true stream seq line queue = refl
-pushed_streams false stream seq line queue = refl
+pushed_stays : (fits : Bool) (stream seq : ℕ) (line : List ℕ) (queue : QueueView) → length line ≤ LONGEST_LINE → QueueStays queue (pushed fits stream seq line queue)
+pushed_stays true stream seq line queue short = record { streams = refl; slots = refl; bytes = refl; batch = refl; small = λ small. small }
+pushed_stays false stream seq line queue short = record { streams = refl; slots = refl; bytes = refl; batch = refl; small = λ small. short }
 
-unparks_streams : (fits : Bool) (one : Held) (queue : QueueView) → (unparks fits one queue).streams ≡ queue.streams
-unparks_streams true one queue = refl
-unparks_streams false one queue = refl
+unparks_queue : (fits : Bool) (one : Held) (queue : QueueView) → QueueStays queue (unparks fits one queue)
+unparks_queue true one queue = record { streams = refl; slots = refl; bytes = refl; batch = refl; small = λ small. tt }
+unparks_queue false one queue = record { streams = refl; slots = refl; bytes = refl; batch = refl; small = λ small. small }
 
-sealed_streams : (lane : GateLane) (queue : QueueView) → (sealed_by lane queue).streams ≡ queue.streams
-sealed_streams gate_lane.Global queue = refl
-sealed_streams (gate_lane.Stream stream) queue = refl
+sealed_stays : (lane : GateLane) (queue : QueueView) → QueueStays queue (sealed_by lane queue)
+sealed_stays gate_lane.Global queue = record { streams = refl; slots = refl; bytes = refl; batch = refl; small = λ small. small }
+sealed_stays (gate_lane.Stream stream) queue = record { streams = refl; slots = refl; bytes = refl; batch = refl; small = λ small. small }
 
-record_stays : (stream : ℕ) (line : List ℕ) (result : Accepted) (old new : BookView) → TakesRecord stream line result old new → Stays old new
-record_stays stream line result old new t = stays_as old _ new t.is (record { catalog = refl; opening = refl; limits = refl; streams = pushed_streams t.fits stream old.gate.next line old.queue; seen = seen_same old.seen })
+record_stays : (stream : ℕ) (line : List ℕ) (result : Accepted) (old new : BookView) → length line ≤ LONGEST_LINE → TakesRecord stream line result old new → Stays old new
+record_stays stream line result old new short t = stays_as old _ new t.is (record { catalog = refl; opening = refl; limits = refl; queue = pushed_stays t.fits stream old.gate.next line old.queue short; seen = seen_same old.seen })
 
 unparks_stays : (one : Held) (result : Accepted) (old new : BookView) → Unparks one result old new → Stays old new
-unparks_stays one result old new u = stays_as old _ new u.is (record { catalog = refl; opening = refl; limits = refl; streams = unparks_streams u.fits one old.queue; seen = seen_same old.seen })
+unparks_stays one result old new u = stays_as old _ new u.is (record { catalog = refl; opening = refl; limits = refl; queue = unparks_queue u.fits one old.queue; seen = seen_same old.seen })
 
 state_stays : (lane : GateLane) (state : State) (kind : Lanes) (result : Accepted) (old new : BookView) → TakesState lane state kind result old new → Stays old new
-state_stays lane state kind result old new t = stays_as old _ new t.is (record { catalog = refl; opening = refl; limits = refl; streams = sealed_streams lane old.queue; seen = releases_stay t.released (record { gate = t.gate; seen = old.seen; emitted = old.tally.emitted }) (record { gate = new.gate; seen = new.seen; emitted = new.tally.emitted }) t.releases })
+state_stays lane state kind result old new t = stays_as old _ new t.is (record { catalog = refl; opening = refl; limits = refl; queue = sealed_stays lane old.queue; seen = releases_stay t.released (record { gate = t.gate; seen = old.seen; emitted = old.tally.emitted }) (record { gate = new.gate; seen = new.seen; emitted = new.tally.emitted }) t.releases })
 
 notes_stay : (statuses : _) (result : Accepted) (old new : BookView) → Notes statuses result old new → Stays old new
-notes_stay statuses result old new t = stays_as old _ new t.is (record { catalog = refl; opening = refl; limits = refl; streams = refl; seen = seen_same old.seen })
+notes_stay statuses result old new t = stays_as old _ new t.is (record { catalog = refl; opening = refl; limits = refl; queue = record { streams = refl; slots = refl; bytes = refl; batch = refl; small = λ small. small }; seen = seen_same old.seen })
 
-record_of_stays : (found : Option ℕ) (line : List ℕ) (result : Accepted) (old new : BookView) → TakesRecordOf found line result old new → Stays old new
-record_of_stays None line result old new t = breaks_stay _ result old new t
-record_of_stays (Some stream) line result old new t = record_stays stream line result old new t
+record_of_stays : (found : Option ℕ) (line : List ℕ) (result : Accepted) (old new : BookView) → length line ≤ LONGEST_LINE → TakesRecordOf found line result old new → Stays old new
+record_of_stays None line result old new short t = breaks_stay _ result old new t
+record_of_stays (Some stream) line result old new short t = record_stays stream line result old new short t
 
 state_of_stays : (found : Option ℕ) (state : State) (result : Accepted) (old new : BookView) → TakesStateOf found state result old new → Stays old new
 state_of_stays None state result old new t = breaks_stay _ result old new t
@@ -173,46 +182,46 @@ status_stays : (told : Option Told) (result : Accepted) (old new : BookView) →
 status_stays None result old new t = notes_stay old.statuses result old new t
 status_stays (Some told) result old new t = notes_stay _ result old new t.2
 
-message_stays : (content : Message) (line : List ℕ) (result : Accepted) (old new : BookView) → TakesMessage content line result old new → Stays old new
-message_stays (message.Rec content) line result old new t = record_of_stays t.0 line result old new t.2
-message_stays (message.State state) line result old new t = state_by_stays (lane_of state.kind) state result old new t
-message_stays (message.Trace content) line result old new t = status_stays (status_told content) result old new t
-message_stays (message.Log content) line result old new t = notes_stay old.statuses result old new t
-message_stays (message.Spec content) line result old new t = notes_stay old.statuses result old new t
-message_stays (message.Connection content) line result old new t = notes_stay old.statuses result old new t
-message_stays (message.Catalog content) line result old new t = notes_stay old.statuses result old new t
-message_stays (message.Control content) line result old new t = notes_stay old.statuses result old new t
+message_stays : (content : Message) (line : List ℕ) (result : Accepted) (old new : BookView) → length line ≤ LONGEST_LINE → TakesMessage content line result old new → Stays old new
+message_stays (message.Rec content) line result old new short t = record_of_stays t.0 line result old new short t.2
+message_stays (message.State state) line result old new short t = state_by_stays (lane_of state.kind) state result old new t
+message_stays (message.Trace content) line result old new short t = status_stays (status_told content) result old new t
+message_stays (message.Log content) line result old new short t = notes_stay old.statuses result old new t
+message_stays (message.Spec content) line result old new short t = notes_stay old.statuses result old new t
+message_stays (message.Connection content) line result old new short t = notes_stay old.statuses result old new t
+message_stays (message.Catalog content) line result old new short t = notes_stay old.statuses result old new t
+message_stays (message.Control content) line result old new short t = notes_stay old.statuses result old new t
 
-found_stays : (found : Option Message) (kind : InputKind) (line : List ℕ) (result : Accepted) (old new : BookView) → TakesFound found kind line result old new → Stays old new
-found_stays None kind line result old new t = breaks_stay _ result old new t
-found_stays (Some content) kind line result old new t = message_stays content line result old new t
+found_stays : (found : Option Message) (kind : InputKind) (line : List ℕ) (result : Accepted) (old new : BookView) → length line ≤ LONGEST_LINE → TakesFound found kind line result old new → Stays old new
+found_stays None kind line result old new short t = breaks_stay _ result old new t
+found_stays (Some content) kind line result old new short t = message_stays content line result old new short t
 
-counted_stays : (few : Bool) (kind : InputKind) (line : List ℕ) (result : Accepted) (old new : BookView) → TakesCounted few kind line result old new → Stays old new
-counted_stays false kind line result old new t = breaks_stay _ result old new t
-counted_stays true kind line result old new (inl lacks) = breaks_stay _ result old new lacks
-counted_stays true kind line result old new (inr reads) = found_stays reads.found kind line result old new reads.takes
+counted_stays : (few : Bool) (kind : InputKind) (line : List ℕ) (result : Accepted) (old new : BookView) → length line ≤ LONGEST_LINE → TakesCounted few kind line result old new → Stays old new
+counted_stays false kind line result old new short t = breaks_stay _ result old new t
+counted_stays true kind line result old new short (inl lacks) = breaks_stay _ result old new lacks
+counted_stays true kind line result old new short (inr reads) = found_stays reads.found kind line result old new short reads.takes
 
-line_stays : (kind : InputKind) (line : List ℕ) (result : Accepted) (old new : BookView) → TakesLine kind line result old new → Stays old new
-line_stays kind line result old new t = stays_both old (with_line old) new (record { catalog = refl; opening = refl; limits = refl; streams = refl; seen = seen_same old.seen }) (counted_stays (nat_lt (old.tally.lines + 1) (2 ^ 32)) kind line result (with_line old) new t)
+line_stays : (kind : InputKind) (line : List ℕ) (result : Accepted) (old new : BookView) → length line ≤ LONGEST_LINE → TakesLine kind line result old new → Stays old new
+line_stays kind line result old new short t = stays_both old (with_line old) new (record { catalog = refl; opening = refl; limits = refl; queue = record { streams = refl; slots = refl; bytes = refl; batch = refl; small = λ small. small }; seen = seen_same old.seen }) (counted_stays (nat_lt (old.tally.lines + 1) (2 ^ 32)) kind line result (with_line old) new short t)
 
-takes_stay : (given : Polled) (result : Accepted) (old new : BookView) → Takes given result old new → Stays old new
-takes_stay (polled.Line line) result old new t = line_stays input.BadLine line result old new t
-takes_stay (polled.Torn line) result old new t = line_stays input.TornTail line result old new t
-takes_stay polled.TooLong result old new t = breaks_stay _ result old new t
-takes_stay polled.NotYet result old new t = stays_same old new t.is
-takes_stay polled.End result old new t = stays_as old _ new t.is (record { catalog = refl; opening = refl; limits = refl; streams = refl; seen = seen_same old.seen })
-takes_stay polled.Failed result old new t = breaks_stay _ result old new t
-takes_stay polled.NoMemory result old new t = breaks_stay _ result old new t
+takes_stay : (given : Polled) (result : Accepted) (old new : BookView) → IsWithinLimit given → Takes given result old new → Stays old new
+takes_stay (polled.Line line) result old new within t = line_stays input.BadLine line result old new within t
+takes_stay (polled.Torn line) result old new within t = line_stays input.TornTail line result old new within t
+takes_stay polled.TooLong result old new within t = breaks_stay _ result old new t
+takes_stay polled.NotYet result old new within t = stays_same old new t.is
+takes_stay polled.End result old new within t = stays_as old _ new t.is (record { catalog = refl; opening = refl; limits = refl; queue = record { streams = refl; slots = refl; bytes = refl; batch = refl; small = λ small. small }; seen = seen_same old.seen })
+takes_stay polled.Failed result old new within t = breaks_stay _ result old new t
+takes_stay polled.NoMemory result old new within t = breaks_stay _ result old new t
 
 goes_stay : (parked : Option Held) (result : Accepted) (old new : BookView) → GoesOn parked result old new → Stays old new
-goes_stay None result old new t = stays_both old (record old { seen = t.seen }) new (record { catalog = refl; opening = refl; limits = refl; streams = refl; seen = polls_stay t.given old.seen t.seen t.polls }) (takes_stay t.given result (record old { seen = t.seen }) new t.takes)
+goes_stay None result old new t = stays_both old (record old { seen = t.seen }) new (record { catalog = refl; opening = refl; limits = refl; queue = record { streams = refl; slots = refl; bytes = refl; batch = refl; small = λ small. small }; seen = polls_stay t.given old.seen t.seen t.polls }) (takes_stay t.given result (record old { seen = t.seen }) new t.polls.within t.takes)
 goes_stay (Some one) result old new u = unparks_stays one result old new u
 
 unless_stays : (broken : Option Status) (over : Bool) (result : Accepted) (old new : BookView) → AnswersUnless broken over result old new → Stays old new
 unless_stays (Some stop) over result old new t = stays_same old new t.1
 unless_stays None true result old new t = stays_same old new t.1
 unless_stays None false result old new (inl lacks) = breaks_stay _ result old new lacks
-unless_stays None false result old new (inr room) = stays_both old (record old { gate = room.gate }) new (record { catalog = refl; opening = refl; limits = refl; streams = refl; seen = seen_same old.seen }) (goes_stay old.queue.parked result (record old { gate = room.gate }) new room.goes)
+unless_stays None false result old new (inr room) = stays_both old (record old { gate = room.gate }) new (record { catalog = refl; opening = refl; limits = refl; queue = record { streams = refl; slots = refl; bytes = refl; batch = refl; small = λ small. small }; seen = seen_same old.seen }) (goes_stay old.queue.parked result (record old { gate = room.gate }) new room.goes)
 
 pub accept_stays : (result : Accepted) (old new : BookView) → AcceptAnswer result old new → Stays old new
 accept_stays result old new answer = unless_stays old.tally.broken old.tally.is_ended result old new answer
@@ -220,18 +229,18 @@ accept_stays result old new answer = unless_stays old.tally.broken old.tally.is_
 -- Batches
 
 pub pick_stays : {T : Type 0} (result : Result (Option WorkItem) T) (old new : BookView) → PickAnswer result old new → Stays old new
-pick_stays (Ok (Some item)) old new p = stays_as old _ new p.is (record { catalog = refl; opening = refl; limits = refl; streams = ap (λ (it : QueueView). it.streams) p.goes.goes; seen = seen_same old.seen })
+pick_stays (Ok (Some item)) old new p = stays_as old _ new p.is (record { catalog = refl; opening = refl; limits = refl; queue = record { streams = ap (λ (it : QueueView). it.streams) p.goes.goes; slots = ap (λ (it : QueueView). it.slots) p.goes.goes; bytes = ap (λ (it : QueueView). it.bytes) p.goes.goes; batch = ap (λ (it : QueueView). it.batch) p.goes.goes; small = λ small. subst IsSmall (sym (ap (λ (it : QueueView). it.parked) p.goes.goes)) small }; seen = seen_same old.seen })
 pick_stays (Ok None) old new t = stays_same old new t.1
 pick_stays (Err why) old new t = stays_same old new t
 
 commits_book_stay : (batch : ℕ) (released : Result (Unit {0}) Fault) (old new : BookView) → Commits batch released old new → Stays old new
-commits_book_stay batch released old new c = stays_as old _ new c.is (record { catalog = refl; opening = refl; limits = refl; streams = refl; seen = seen_both old.seen c.seen new.seen (commits_stay (Ok tt) c.number c.rows old.seen c.seen c.commits) (releases_stay released (record { gate = c.gate; seen = c.seen; emitted = old.tally.emitted }) (record { gate = new.gate; seen = new.seen; emitted = new.tally.emitted }) c.releases) })
+commits_book_stay batch released old new c = stays_as old _ new c.is (record { catalog = refl; opening = refl; limits = refl; queue = record { streams = refl; slots = refl; bytes = refl; batch = refl; small = λ small. small }; seen = seen_both old.seen c.seen new.seen (commits_stay (Ok tt) c.number c.rows old.seen c.seen c.commits) (releases_stay released (record { gate = c.gate; seen = c.seen; emitted = old.tally.emitted }) (record { gate = new.gate; seen = new.seen; emitted = new.tally.emitted }) c.releases) })
 
 stops_book_stay : (stop : Status) (batch : ℕ) (result : Result (Unit {0}) Fault) (old new : BookView) → Stops stop batch result old new → Stays old new
-stops_book_stay stop batch result old new s = stays_as old _ new s.5 (record { catalog = refl; opening = refl; limits = refl; streams = refl; seen = commits_stay result s.0 s.1 old.seen s.2 s.4 })
+stops_book_stay stop batch result old new s = stays_as old _ new s.5 (record { catalog = refl; opening = refl; limits = refl; queue = record { streams = refl; slots = refl; bytes = refl; batch = refl; small = λ small. small }; seen = commits_stay result s.0 s.1 old.seen s.2 s.4 })
 
 breaks_put_stay : (stop : Status) (batch : ℕ) (old new : BookView) → BreaksPut stop batch old new → Stays old new
-breaks_put_stay status.NoMemory batch old new (inl lacks) = stays_as old _ new lacks (record { catalog = refl; opening = refl; limits = refl; streams = refl; seen = seen_same old.seen })
+breaks_put_stay status.NoMemory batch old new (inl lacks) = stays_as old _ new lacks (record { catalog = refl; opening = refl; limits = refl; queue = record { streams = refl; slots = refl; bytes = refl; batch = refl; small = λ small. small }; seen = seen_same old.seen })
 breaks_put_stay status.NoMemory batch old new (inr (inl s)) = stops_book_stay status.NoMemory batch (Err fault.NoMemory) old new s
 breaks_put_stay status.NoMemory batch old new (inr (inr c)) = commits_book_stay batch (Err fault.NoMemory) old new c
 breaks_put_stay status.StoreFault batch old new s = stops_book_stay status.StoreFault batch (Err fault.Failed) old new s
@@ -248,8 +257,8 @@ put_stays done (put.Stranger back) old new t = stays_same old new t.3
 put_stays done (put.Broken stop) old new t = broken_put_stays old.tally.broken stop done.item.batch old new t
 
 pub give_back_stays : (item : WorkItem) (result : Option WorkItem) (old new : BookView) → GiveBackAnswer item result old new → Stays old new
-give_back_stays item None old new t = stays_as old _ new t.1 (record { catalog = refl; opening = refl; limits = refl; streams = refl; seen = seen_same old.seen })
+give_back_stays item None old new t = stays_as old _ new t.1 (record { catalog = refl; opening = refl; limits = refl; queue = record { streams = refl; slots = refl; bytes = refl; batch = refl; small = λ small. small }; seen = seen_same old.seen })
 give_back_stays item (Some back) old new t = stays_same old new t.2
 
 pub recall_stays : (old new : BookView) → new ≡ recalled old → Stays old new
-recall_stays old new same = stays_as old (recalled old) new same (record { catalog = refl; opening = refl; limits = refl; streams = refl; seen = seen_same old.seen })
+recall_stays old new same = stays_as old (recalled old) new same (record { catalog = refl; opening = refl; limits = refl; queue = record { streams = refl; slots = refl; bytes = refl; batch = refl; small = λ small. small }; seen = seen_same old.seen })

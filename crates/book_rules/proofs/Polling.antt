@@ -1,19 +1,18 @@
 -- A poll of the input, a record that waits for room, and the call on the input as a whole.
-use Rattle.std.proofs.Common.{arith, ◌≡◌, ◌⊎◌, inl, inr, ℕ, ◌+◌, ◌<◌, ◌≤◌, ◌^◌, List, [], ◌∷◌, ◌++◌, map, length, Option, None, Some, Bool, true, false, cond, refl, sym, ◌∙◌, ap, subst, length-append}
-use Rattle.std.specs.Prelude.{filter_map, not, ◌||◌, IfSome, IsTrue, ◌↔◌, option_to_list, slice_get}
-use Rattle.std.specs.List.{AllByRecursion, list_any}
+use Rattle.std.proofs.Common.{arith, ◌≡◌, inl, inr, ◌+◌, ◌<◌, List, [], ◌∷◌, ◌++◌, map, length, Option, None, Some, Bool, true, false, cond, refl, sym, ◌∙◌, ap, subst, length-append}
+use Rattle.std.specs.Prelude.{filter_map, ◌||◌, IfSome, IsTrue, ◌↔◌, option_to_list, slice_get}
+use Rattle.std.specs.List.{list_any}
 use Rattle.std.proofs.lemmas.List.{append-nil}
 use Rattle.std.proofs.lemmas.List.Elements.{filter_map-append}
-use Rattle.basics.specs.Told.{told_by, told_more}
+use Rattle.basics.specs.Told.{told_more}
 use Rattle.basics.specs.declared.stream.StreamId.{StreamId}
-use Rattle.catalog.specs.declared.stream.ConfStream.{ConfStream}
-use Rattle.catalog.specs.Configured.{AreConfigured}
 use Rattle.stream_index.specs.Distinct.{AreDistinct}
 use Rattle.airbyte_message.specs.Lanes.{Lane}
 use Rattle.airbyte_message.specs.Lanes as lanes
-use Rattle.outside.specs.Dock.{DockSeen, TookAdds, dock_events, took_over}
+use Rattle.outside.specs.Dock.{DockFace, DockSeen, TookAdds, dock_events}
+use Rattle.outside.specs.Link.{kind_of}
 use Rattle.outside.specs.declared.event.Event.{Event}
-use Rattle.outside.specs.declared.event.Event.TheVariants.{Took, TookEnd}
+use Rattle.outside.specs.declared.event.Event.TheVariants.{TookEnd}
 use Rattle.outside.specs.declared.faults.InputKind.TheVariants as input
 use Rattle.outside.specs.declared.link.Polled.{Polled}
 use Rattle.outside.specs.declared.link.Polled.TheVariants as polled
@@ -25,21 +24,20 @@ use Rattle.state_gate.specs.declared.pending.Lane.TheVariants as gate_lane
 use Rattle.load_rules.specs.Acts.{Act, Ends, taken, committed, state_echoed}
 use Rattle.load_rules.specs.Finished.{last_status}
 use Rattle.load_rules.specs.Loads.{Opening}
-use Rattle.load_rules.specs.Machine.{Machine, Placed, Step, End, happens, run}
+use Rattle.load_rules.specs.Machine.{Machine, Placed, End, happens}
 use Rattle.load_rules.specs.Taken.{entries, since}
 use Rattle.load_rules.proofs.Machines.{taken-more, committed-more}
 use Rattle.book_rules.specs.declared.answer.Accepted.{Accepted}
-use Rattle.book_rules.specs.declared.answer.Tally.{Tally}
-use Rattle.book_rules.specs.Accepts.{AcceptAnswer, AnswersUnless, Breaks, GoesOn, MakesRoom, Takes, TakesNext, Unparks, sealed_by, unparks}
-use Rattle.book_rules.specs.Books.{IsAcceptRun, IsBook, IsBookOf, IsQuiet, IsSealing, Runs, Tallied, Tells}
-use Rattle.book_rules.specs.Holds.{AreHeld, IsHeld, accepted_of, is_end, lanes_among, still}
+use Rattle.book_rules.specs.Accepts.{AcceptAnswer, AnswersUnless, Breaks, GoesOn, MakesRoom, Takes, Unparks, sealed_by, unparks}
+use Rattle.book_rules.specs.Books.{BrokeBy, IsAcceptRun, IsBookOf, IsSealing, Runs, Tells}
+use Rattle.book_rules.specs.Holds.{AreHeld, accepted_of, is_end, lanes_among, still}
 use Rattle.book_rules.specs.Views.{BookView, ids}
-use Rattle.book_rules.proofs.Accepting.{Begins, Given, Went, broke, broke_still, quiet_as, releasable_by, unbroken, went_as, went_line, went_none, went_runs, went_sealed}
-use Rattle.book_rules.proofs.Acts.{Adds, Ran, ran_act, ran_still, ends_more}
+use Rattle.book_rules.proofs.Accepting.{Begins, Went, broke, broke_still, releasable_by, went_as, went_line, went_none, went_runs, went_sealed}
+use Rattle.book_rules.proofs.Acts.{ran_act, ran_still, ends_more}
 use Rattle.book_rules.proofs.Lists.{all_append}
 use Rattle.book_rules.proofs.Releasing.{few_held, regated}
-use Rattle.book_rules.proofs.Sealing.{seal_all_leads, seal_full_leads, seal_oldest_leads}
-use Rattle.book_rules.proofs.Whole.{IsWhole, Leads, MovesTo, Requeues, book_of_whole, leads_on, leads_requeued, whole_of}
+use Rattle.book_rules.proofs.Sealing.{alike_push, seal_all_leads, seal_full_leads, seal_oldest_leads}
+use Rattle.book_rules.proofs.Whole.{IsWhole, Leads, book_of_whole, leads_on, leads_requeued, whole_of}
 
 -- The input ends
 
@@ -60,7 +58,7 @@ took_end book seen = record book { seen = seen; tally = record (book.tally) { is
 
 end_whole : (book : BookView) (m : Machine) (seen : DockSeen) → IsWhole book m → book.tally.is_ended ≡ false → TookAdds polled.End (dock_events book.seen) (dock_events seen) → IsWhole (took_end book seen) (happens book.catalog m End)
 end_whole book m seen w not_yet adds = record {
-  ran = ran_act book.catalog book.opening book.limits.slots m End Ends (dock_events book.seen) (dock_events seen) w.ran refl tt (few_held book m w) (record { event = TookEnd; added = end_added book.opening m.acts (dock_events book.seen) (dock_events seen) (w.tallied.ended ∙ not_yet) w.ran.told adds; store = refl; opens = refl; is = λ read reads. tt; over = or_true });
+  ran = ran_act book.catalog book.opening book.limits.slots m End Ends (dock_events book.seen) (dock_events seen) w.ran refl tt tt (few_held book m w) (record { event = TookEnd; added = end_added book.opening m.acts (dock_events book.seen) (dock_events seen) (w.tallied.ended ∙ not_yet) w.ran.told adds; store = refl; opens = refl; is = λ read reads. tt; over = or_true });
   tallied = record {
     lines = w.tallied.lines ∙ ap (λ list. length list + 0) (sym same);
     most = w.tallied.most;
@@ -90,6 +88,7 @@ end_whole book m seen w not_yet adds = record {
     batch = w.holds.batch;
     fresh = w.holds.fresh;
     parked = w.holds.parked;
+    alike = w.holds.alike;
     few = w.holds.few;
     statuses_many = w.holds.statuses_many;
     statuses = λ number id named. w.holds.statuses number id named ∙ ap (λ list. Some (last_status id list)) (sym same);
@@ -129,6 +128,7 @@ reseen book m seen same w = record {
     batch = w.holds.batch;
     fresh = w.holds.fresh;
     parked = w.holds.parked;
+    alike = w.holds.alike;
     few = w.holds.few;
     statuses_many = w.holds.statuses_many;
     statuses = w.holds.statuses;
@@ -138,20 +138,20 @@ reseen book m seen same w = record {
 
 -- What a poll gave
 
-went_broke : (book : BookView) (m : Machine) (seen : DockSeen) (stop : Status) (result : Accepted) (new : BookView) → Begins book m → dock_events seen ≡ dock_events book.seen → Breaks stop result (record book { seen = seen }) new → Went IsAcceptRun book.catalog new m
-went_broke book m seen stop result new b same r = went_as IsAcceptRun book.catalog (broke (record book { seen = seen }) stop) new m r.is (went_none book.catalog (broke (record book { seen = seen }) stop) m (broke_still book m seen stop b.w same))
+went_broke : (book : BookView) (m : Machine) (seen : DockSeen) (stop : Status) (result : Accepted) (new : BookView) → Begins book m → dock_events seen ≡ dock_events book.seen → BrokeBy (ids book) book.tally.lines seen.face.poll m.acts [] stop → Breaks stop result (record book { seen = seen }) new → Went IsAcceptRun book.catalog new m
+went_broke book m seen stop result new b same why r = went_as IsAcceptRun book.catalog (broke (record book { seen = seen }) stop) new m r.is (went_none book.catalog (broke (record book { seen = seen }) stop) m (broke_still book m seen stop b.w same why))
 
-went_taken : (book : BookView) (m : Machine) (seen : DockSeen) (given : Polled) (result : Accepted) (new : BookView) → Begins book m → book.queue.parked ≡ None → book.tally.is_ended ≡ false → TookAdds given (dock_events book.seen) (dock_events seen) → Takes given result (record book { seen = seen }) new → Went IsAcceptRun book.catalog new m
-went_taken book m seen (polled.Line line) result new b empty not_yet adds t = went_line book m seen line input.BadLine result new (record { b = b; empty = empty; added = adds }) t
-went_taken book m seen (polled.Torn line) result new b empty not_yet adds t = went_line book m seen line input.TornTail result new (record { b = b; empty = empty; added = adds }) t
-went_taken book m seen polled.TooLong result new b empty not_yet adds t = went_broke book m seen _ result new b adds t
-went_taken book m seen polled.NotYet result new b empty not_yet adds t = went_as IsAcceptRun book.catalog (record book { seen = seen }) new m t.is (went_none book.catalog (record book { seen = seen }) m (book_of_whole (record book { seen = seen }) m (reseen book m seen adds b.w) b.quiet))
-went_taken book m seen polled.End result new b empty not_yet adds t =
+went_taken : (book : BookView) (m : Machine) (seen : DockSeen) (given : Polled) (result : Accepted) (new : BookView) → Begins book m → book.queue.parked ≡ None → book.tally.is_ended ≡ false → TookAdds given (dock_events book.seen) (dock_events seen) → seen.face.poll ≡ kind_of given → Takes given result (record book { seen = seen }) new → Went IsAcceptRun book.catalog new m
+went_taken book m seen (polled.Line line) result new b empty not_yet adds poll t = went_line book m seen line input.BadLine result new (record { b = b; empty = empty; added = adds }) tt t
+went_taken book m seen (polled.Torn line) result new b empty not_yet adds poll t = went_line book m seen line input.TornTail result new (record { b = b; empty = empty; added = adds }) poll t
+went_taken book m seen polled.TooLong result new b empty not_yet adds poll t = went_broke book m seen _ result new b adds (refl, refl, poll) t
+went_taken book m seen polled.NotYet result new b empty not_yet adds poll t = went_as IsAcceptRun book.catalog (record book { seen = seen }) new m t.is (went_none book.catalog (record book { seen = seen }) m (book_of_whole (record book { seen = seen }) m (reseen book m seen adds b.w) b.quiet))
+went_taken book m seen polled.End result new b empty not_yet adds poll t =
     let now = happens book.catalog m End in
     let quiet = releasable_by m now (committed-more m.acts Ends ∙ append-nil (committed m.acts)) refl b.quiet in
     went_as IsAcceptRun book.catalog _ new m t.is (went_sealed book.catalog (record (took_end book seen) { queue = sealed_by gate_lane.Global book.queue }) m (End ∷ []) (omega arith) (tt, tt) quiet (seal_all_leads (took_end book seen) now empty (end_whole book m seen b.w not_yet adds)))
-went_taken book m seen polled.Failed result new b empty not_yet adds t = went_broke book m seen _ result new b adds t
-went_taken book m seen polled.NoMemory result new b empty not_yet adds t = went_broke book m seen _ result new b adds t
+went_taken book m seen polled.Failed result new b empty not_yet adds poll t = went_broke book m seen _ result new b adds tt t
+went_taken book m seen polled.NoMemory result new b empty not_yet adds poll t = went_broke book m seen _ result new b adds tt t
 
 -- A record that waits for room
 
@@ -179,6 +179,7 @@ unparked_leads book m one w is room =
       batch = refl;
       fresh = all_append (λ it. number_below book.queue.next_batch it.place ≡ true) book.queue.held (one ∷ []) w.holds.fresh (ap (number_below book.queue.next_batch) (place_queued book.queue.parked one is w.holds.parked), tt);
       parked = tt;
+      alike = λ n. alike_push n book.queue.held one (place_queued book.queue.parked one is w.holds.parked) (w.holds.alike n);
     })
 
 went_unparks : (book : BookView) (m : Machine) (one : Held) (result : Accepted) (new : BookView) → Begins book m → book.queue.parked ≡ Some one → Unparks one result book new → Went IsAcceptRun book.catalog new m
@@ -194,7 +195,7 @@ went_unparks book m one result new b is u = went_as IsAcceptRun book.catalog _ n
     at false room = went_sealed book.catalog (record book { queue = unparks false one book.queue }) m [] (omega arith) tt b.quiet (seal_oldest_leads book m b.distinct b.w)
 
 went_on : (book : BookView) (m : Machine) (parked : Option Held) (result : Accepted) (new : BookView) → Begins book m → book.queue.parked ≡ parked → book.tally.is_ended ≡ false → GoesOn parked result book new → Went IsAcceptRun book.catalog new m
-went_on book m None result new b is not_yet t = went_taken book m t.seen t.given result new b is not_yet t.polls.events t.takes
+went_on book m None result new b is not_yet t = went_taken book m t.seen t.given result new b is not_yet t.polls.events (ap (λ (it : DockFace). it.poll) t.polls.face) t.takes
 went_on book m (Some one) result new b is not_yet u = went_unparks book m one result new b is u
 
 -- The call
@@ -208,7 +209,7 @@ begins book m distinct whole is = record { distinct = distinct; w = whole_of boo
 went_accept : (book : BookView) (m : Machine) (broken : Option Status) (over : Bool) (result : Accepted) (new : BookView) → AreDistinct (ids book) → IsBookOf book m → book.tally.broken ≡ broken → book.tally.is_ended ≡ over → AnswersUnless broken over result book new → Went IsAcceptRun book.catalog new m
 went_accept book m (Some stop) over result new distinct is broken ended t = went_none book.catalog new m (subst (λ (it : BookView). IsBookOf it m) (sym t.1) is)
 went_accept book m None true result new distinct is broken ended t = went_none book.catalog new m (subst (λ (it : BookView). IsBookOf it m) (sym t.1) is)
-went_accept book m None false result new distinct is broken ended (inl lacks) = went_broke book m book.seen status.NoMemory result new (begins book m distinct broken is) refl lacks
+went_accept book m None false result new distinct is broken ended (inl lacks) = went_broke book m book.seen status.NoMemory result new (begins book m distinct broken is) refl tt lacks
 went_accept book m None false result new distinct is broken ended (inr room) = went_room book m result new (begins book m distinct broken is) ended room
 
 pub accept_runs : (result : Accepted) (old new : BookView) → AreDistinct (ids old) → AcceptAnswer result old new → Runs IsAcceptRun old new

@@ -1,16 +1,10 @@
 -- A batch that is put: one commit of its own rows, and then releases.
-use Rattle.std.proofs.Common.{arith, ◌≡◌, ◌⊎◌, inl, inr, ℕ, zero, suc, ◌+◌, ◌<◌, ◌≤◌, eqb, List, [], ◌∷◌, ◌++◌, map, length, Option, None, Some, Bool, true, false, cond, Result, Ok, Err, refl, sym, ◌∙◌, ap, subst, length-append}
-use Rattle.std.specs.Prelude.{filter, filter_map, find, not, ◌&&◌, ◌||◌, IfSome, option_map, option_to_list, slice_get}
+use Rattle.std.proofs.Common.{◌≡◌, ◌⊎◌, inl, inr, ℕ, zero, suc, List, [], ◌∷◌, map, Some, Bool, true, false, refl, sym, ◌∙◌, ap, subst}
+use Rattle.std.specs.Prelude.{filter, slice_get}
 use Rattle.std.specs.List.{AllByRecursion, list_any}
-use Rattle.std.proofs.lemmas.List.{append-nil, map-append}
-use Rattle.std.proofs.lemmas.List.Elements.{filter-append, filter_map-append}
-use Rattle.std.proofs.lemmas.Bool.{and_parts, cases_Bool, eq-eqb, false≢true}
-use Rattle.std.proofs.lemmas.Option.{slice_get-map}
-use Rattle.basics.specs.Told.{told_more}
+use Rattle.std.proofs.lemmas.Bool.{and_parts, cases_Bool, eq-eqb}
 use Rattle.basics.specs.declared.stream.StreamId.{StreamId}
 use Rattle.catalog.specs.declared.stream.ConfStream.{ConfStream}
-use Rattle.stream_index.specs.Distinct.{AreDistinct}
-use Rattle.airbyte_message.specs.Lanes as lanes
 use Rattle.airbyte_message.specs.declared.message.Message.TheVariants as message
 use Rattle.airbyte_message.specs.declared.message.RecordMsg.{RecordMsg}
 use Rattle.airbyte_message.proofs.OneMessage.{message_only}
@@ -19,44 +13,20 @@ use Rattle.batch_prep.specs.Items as items
 use Rattle.batch_prep.specs.declared.item.PrepPlan.{PrepPlan}
 use Rattle.column_types.specs.Columns.{AreColumns}
 use Rattle.column_types.specs.Rows.{IsRow}
-use Rattle.outside.specs.Dock.{DockSeen, dock_events}
-use Rattle.outside.specs.Tables.{same_id}
-use Rattle.outside.proofs.TableLaws.{id_is, id_own}
-use Rattle.outside.specs.declared.event.Event.{Event}
-use Rattle.outside.specs.declared.event.Event.TheVariants.{Committed}
+use Rattle.outside.proofs.TableLaws.{id_is}
 use Rattle.outside.specs.declared.event.RawRow.{RawRow}
 use Rattle.outside.specs.declared.event.StreamPlan.{StreamPlan}
-use Rattle.outside.specs.declared.fault.Fault.{Fault}
-use Rattle.outside.specs.declared.fault.Fault.TheVariants as fault
 use Rattle.outside.specs.declared.line.SeqLine.{SeqLine}
-use Rattle.outside.specs.declared.status.Status.{Status}
-use Rattle.outside.specs.declared.status.Status.TheVariants as status
 use Rattle.book_queue.specs.Content.{Held, all_of, batch_of, number_below}
 use Rattle.book_queue.specs.Content as queue
-use Rattle.state_gate.specs.Content.{Content, is_among, with_committed}
-use Rattle.state_gate.specs.Views.{GateView, Stands}
-use Rattle.state_gate.specs.declared.pending.Accepted.{Accepted}
-use Rattle.load_rules.specs.Acts.{Act, Commits, taken, committed, state_echoed}
 use Rattle.load_rules.specs.Engine.{PlansFit}
-use Rattle.load_rules.specs.Finished.{last_status}
 use Rattle.load_rules.specs.Loads.{Opening}
-use Rattle.load_rules.specs.Machine.{Machine, Placed, Step, Commit, Done, run, happens, commits, commits_batch, commits_at, entry_of, have_sequences, in_batch, is_done, is_in_batch, is_of, is_out, move}
+use Rattle.load_rules.specs.Machine.{Placed, entry_of, have_sequences, is_done, is_in_batch, is_of, is_out}
 use Rattle.load_rules.specs.Rows.{IsRowOf}
 use Rattle.load_rules.specs.SafeDest.{AreRowsOf}
-use Rattle.load_rules.specs.Taken.{Entry, entries, is_in, since}
-use Rattle.load_rules.proofs.Machines.{commit_taken, length-move, numbered_placed, picked, picked_is, seqs}
-use Rattle.book_rules.specs.declared.answer.Tally.{Tally}
-use Rattle.book_rules.specs.Accepts.{broken_by}
-use Rattle.book_rules.specs.Books.{IsBookOf, IsReleasing, Tallied}
-use Rattle.book_rules.specs.Holds.{AreHeld, IsHeld, accepted_of, is_end, lanes_among, still}
-use Rattle.book_rules.specs.Puts.{CommitsRows, GateCommits, IsPlanFor, OwnRows, seqs_of}
-use Rattle.book_rules.specs.Views.{BookView, ids}
-use Rattle.book_rules.proofs.Acts.{Adds, Ran, ran_act, ends_more, or_false}
-use Rattle.book_rules.proofs.Lists.{all_append, filter_as, filter_map_list, length_filter, some_is}
-use Rattle.book_rules.proofs.Moves.{done_held, held_in_batch, held_length}
-use Rattle.book_rules.proofs.Releasing.{few_held}
-use Rattle.book_rules.proofs.Sealing.{done_not_out}
-use Rattle.book_rules.proofs.Whole.{IsWhole, broken_of, whole_good}
+use Rattle.load_rules.specs.Taken.{Entry}
+use Rattle.book_rules.specs.Holds.{AreHeld, IsHeld, still}
+use Rattle.book_rules.proofs.Lists.{some_is}
 
 -- Lists
 

@@ -1,10 +1,9 @@
 -- States that are released: each is a step of the machine.
-use Rattle.std.proofs.Common.{arith, ◌≡◌, ◌⊎◌, inl, inr, ℕ, zero, suc, ◌+◌, ◌<◌, ◌≤◌, List, [], ◌∷◌, ◌++◌, map, length, Option, None, Some, Bool, true, false, Result, Ok, Err, refl, sym, ◌∙◌, ap, subst, length-append}
-use Rattle.std.specs.Prelude.{find, filter_map, not, ◌||◌, IfSome, option_map, option_to_list}
+use Rattle.std.proofs.Common.{arith, ◌≡◌, ◌⊎◌, inl, inr, ℕ, zero, suc, ◌+◌, ◌≤◌, List, [], ◌∷◌, ◌++◌, length, Option, None, Some, refl, sym, ◌∙◌, ap, subst, length-append}
+use Rattle.std.specs.Prelude.{find, filter_map, option_map, option_to_list}
 use Rattle.std.specs.List.{AllByRecursion, list_any}
 use Rattle.std.proofs.lemmas.List.Elements.{filter_map-append}
 use Rattle.basics.specs.Told.{told_more}
-use Rattle.basics.specs.declared.stream.StreamId.{StreamId}
 use Rattle.catalog.specs.declared.stream.ConfStream.{ConfStream}
 use Rattle.stream_index.specs.Distinct.{AreDistinct}
 use Rattle.airbyte_message.specs.Echo.{IsEcho}
@@ -28,18 +27,18 @@ use Rattle.load_rules.specs.Finished.{last_status}
 use Rattle.load_rules.specs.Machine.{Machine, Step, Release, run, happens, releases, is_releasable, without_first}
 use Rattle.load_rules.specs.Prefixes.{IsPrefix}
 use Rattle.load_rules.specs.Taken.{LaneState, entries, since, count_of}
-use Rattle.load_rules.proofs.Machines.{echo_taken}
+use Rattle.load_rules.proofs.Machines.{echo_done, echo_taken}
 use Rattle.load_rules.proofs.SafeRuns.{runs_grow}
 use Rattle.book_rules.specs.declared.answer.Tally.{Tally}
-use Rattle.book_rules.specs.Books.{CountsEchoes, IsBookOf, IsQuiet, IsReleasing, Tallied}
-use Rattle.book_rules.specs.Holds.{Holds, AreWaiting, IsWaiting, is_end, still, lanes_among}
-use Rattle.book_rules.specs.Releases.{Point, IsEchoOf, TakesHead, Released, ReleasesTo, HasNoHead, ReleasesAll, StopsBy, stop_of, ReleasesSome}
+use Rattle.book_rules.specs.Books.{BrokeBy, CountsEchoes, IsBookOf, IsQuiet, IsReleasing, Tallied}
+use Rattle.book_rules.specs.Holds.{AreWaiting, IsWaiting, is_end, still, lanes_among}
+use Rattle.book_rules.specs.Releases.{Point, IsEchoOf, TakesHead, Released, ReleasesTo, ReleasesAll, StopsBy, stop_of, ReleasesSome}
 use Rattle.book_rules.specs.Views.{BookView, ids}
 use Rattle.book_rules.proofs.Acts.{Adds, Ran, ran_act, ran_still, ends_more, or_false}
 use Rattle.book_rules.proofs.Heads.{FoundAlike, clear_is, found_alike, without_alike, rising_fronts, without_shorter}
 use Rattle.book_rules.proofs.Lists.{all_append, none_is, none_some, some_is}
 use Rattle.book_rules.proofs.Moves.{held_length}
-use Rattle.book_rules.proofs.Whole.{IsWhole, Leads, leads_still, leads_on, whole_good, broken_of}
+use Rattle.book_rules.proofs.Whole.{IsWhole, Leads, leads_still, leads_on, whole_good, broken_counts, broken_of, whole_counts}
 
 -- A gate that stands for the same
 
@@ -68,6 +67,7 @@ regated book m now keeps streams next states w = record {
     batch = w.holds.batch;
     fresh = w.holds.fresh;
     parked = w.holds.parked;
+    alike = w.holds.alike;
     few = w.holds.few;
     statuses_many = w.holds.statuses_many;
     statuses = w.holds.statuses;
@@ -138,7 +138,7 @@ module _ (book : BookView) (m : Machine) (distinct : AreDistinct (ids book)) (w 
 
   -- its echo was emitted
   pub echo_ran : (pending : Pending) (line : List ℕ) (now : Option (List Event)) → Head book m w.holds.content pending → IsEchoOf pending line → now ≡ told_more (Emitted line ∷ []) (dock_events book.seen) → Ran book.catalog book.opening book.limits.slots (happens book.catalog m Release) [] now
-  echo_ran pending line now head echo added = ran_act book.catalog book.opening book.limits.slots m Release (Echoes head.state) (dock_events book.seen) now w.ran (ap (λ (it : Machine). it.acts) machine) tt few adds
+  echo_ran pending line now head echo added = ran_act book.catalog book.opening book.limits.slots m Release (Echoes head.state) (dock_events book.seen) now w.ran (ap (λ (it : Machine). it.acts) machine) tt tt few adds
     where
       machine : happens book.catalog m Release ≡ releases m (Some head.state)
       machine = ap (releases m) head.found
@@ -210,6 +210,7 @@ release_one book old new m distinct r w = subst (IsWhole (at_point book new)) (s
     batch = w.holds.batch;
     fresh = w.holds.fresh;
     parked = w.holds.parked;
+    alike = w.holds.alike;
     few = w.holds.few;
     statuses_many = w.holds.statuses_many;
     statuses = λ number id named. w.holds.statuses number id named ∙ ap (λ list. Some (last_status id list)) (sym taken_is);
@@ -269,8 +270,8 @@ pub record LeadsBroken (catalog : List ConfStream) (new : BookView) (m : Machine
   pub leads : IsBookOf new (run catalog steps m)
 
 -- the echo that failed does not stand
-stop_still : (book : BookView) (last new : Point) (m : Machine) (stop : Status) → new.gate.next ≡ last.gate.next → new.emitted ≡ last.emitted → dock_events new.seen ≡ dock_events last.seen → ((counted emitted : ℕ) → emitted ≡ counted → CountsEchoes (Some stop) counted emitted) → IsWhole (at_point book last) m → IsBookOf (broke_at book new stop) m
-stop_still book last new m stop next_is emitted_is same counts w =
+stop_still : (book : BookView) (last new : Point) (m : Machine) (stop : Status) → new.gate.next ≡ last.gate.next → new.emitted ≡ last.emitted → dock_events new.seen ≡ dock_events last.seen → ((counted emitted : ℕ) → emitted ≡ counted → CountsEchoes (Some stop) counted emitted) → BrokeBy (ids book) book.tally.lines new.seen.face.poll m.acts [] stop → IsWhole (at_point book last) m → IsBookOf (broke_at book new stop) m
+stop_still book last new m stop next_is emitted_is same counts why w =
     broken_of (broke_at book new stop) m [] stop refl (ran_still book.catalog book.opening book.limits.slots m [] (dock_events last.seen) (dock_events new.seen) w.ran same) (record {
       lines = w.tallied.lines;
       most = w.tallied.most;
@@ -278,12 +279,12 @@ stop_still book last new m stop next_is emitted_is same counts w =
       lanes = w.tallied.lanes;
       emitted = counts new.emitted (length (filter_map state_echoed m.acts)) (counts_of_none book.tally.broken last.emitted (length (filter_map state_echoed m.acts)) w.whole w.tallied.emitted ∙ sym emitted_is);
       ended = w.tallied.ended;
-    })
+    }) (broken_counts stop last.gate.next (length (all_of book.queue)) new.gate.next m.acts m.acts next_is refl (whole_counts (at_point book last) m w)) why
 
 -- it stands
 stop_stands : (book : BookView) (last new : Point) (m : Machine) (pending : Pending) (line : List ℕ) → AreDistinct (ids book) → TakesHead pending last.gate new.gate → IsEchoOf pending line → new.emitted ≡ last.emitted → dock_events new.seen ≡ told_more (Emitted line ∷ []) (dock_events last.seen) → IsWhole (at_point book last) m → IsBookOf (broke_at book new status.WriteFault) (happens book.catalog m Release)
 stop_stands book last new m pending line distinct takes echo emitted_is added w =
-    subst (IsBookOf (broke_at book new status.WriteFault)) (sym machine) (broken_of (broke_at book new status.WriteFault) (releases m (Some head.state)) [] status.WriteFault refl (subst (λ (it : Machine). Ran book.catalog book.opening book.limits.slots it [] (dock_events new.seen)) machine (echo_ran (at_point book last) m distinct w pending line (dock_events new.seen) head echo added)) (tallied_echo (at_point book last).tally (broke_at book new status.WriteFault).tally last.gate.next new.gate.next m.acts head.state refl refl refl (ap (λ (it : GateView). it.next) takes.view) (inr counts) w.tallied))
+    subst (IsBookOf (broke_at book new status.WriteFault)) (sym machine) (broken_of (broke_at book new status.WriteFault) (releases m (Some head.state)) [] status.WriteFault refl (subst (λ (it : Machine). Ran book.catalog book.opening book.limits.slots it [] (dock_events new.seen)) machine (echo_ran (at_point book last) m distinct w pending line (dock_events new.seen) head echo added)) (tallied_echo (at_point book last).tally (broke_at book new status.WriteFault).tally last.gate.next new.gate.next m.acts head.state refl refl refl (ap (λ (it : GateView). it.next) takes.view) (inr counts) w.tallied) (broken_counts status.WriteFault last.gate.next (length (all_of book.queue)) new.gate.next m.acts (m.acts ++ Echoes head.state ∷ []) (ap (λ (it : GateView). it.next) takes.view) (echo_done m.acts head.state) (whole_counts (at_point book last) m w)) tt)
   where
     head : Head (at_point book last) m w.holds.content pending
     head = head_is (at_point book last) m distinct w pending (takes.head w.holds.content w.holds.gate)
@@ -295,12 +296,12 @@ stop_stands book last new m pending line distinct takes echo emitted_is added w 
     counts = let before = counts_of_none book.tally.broken last.emitted (length (filter_map state_echoed m.acts)) w.whole w.tallied.emitted in let more = echoes_more m.acts head.state in omega (arith, before, more, emitted_is)
 
 stops_lead : (stop : Fault) (book : BookView) (last new : Point) (m : Machine) (pending : Pending) → AreDistinct (ids book) → TakesHead pending last.gate new.gate → StopsBy stop pending last.seen new.seen → new.emitted ≡ last.emitted → IsWhole (at_point book last) m → LeadsBroken book.catalog (broke_at book new (stop_of stop)) m
-stops_lead fault.NoMemory book last new m pending distinct takes (inl same) emitted_is w = record { steps = []; all = tt; leads = stop_still book last new m status.NoMemory (ap (λ (it : GateView). it.next) takes.view) emitted_is (ap dock_events same) (λ counted emitted e. e) w }
-stops_lead fault.NoMemory book last new m pending distinct takes (inr tried) emitted_is w = record { steps = []; all = tt; leads = stop_still book last new m status.NoMemory (ap (λ (it : GateView). it.next) takes.view) emitted_is tried.2.events (λ counted emitted e. e) w }
+stops_lead fault.NoMemory book last new m pending distinct takes (inl same) emitted_is w = record { steps = []; all = tt; leads = stop_still book last new m status.NoMemory (ap (λ (it : GateView). it.next) takes.view) emitted_is (ap dock_events same) (λ counted emitted e. e) tt w }
+stops_lead fault.NoMemory book last new m pending distinct takes (inr tried) emitted_is w = record { steps = []; all = tt; leads = stop_still book last new m status.NoMemory (ap (λ (it : GateView). it.next) takes.view) emitted_is tried.2.events (λ counted emitted e. e) tt w }
 stops_lead fault.Failed book last new m pending distinct takes tried emitted_is w = at tried.2.events
   where
     at : (dock_events new.seen ≡ dock_events last.seen) ⊎ (dock_events new.seen ≡ told_more (Emitted tried.0 ∷ []) (dock_events last.seen)) → LeadsBroken book.catalog (broke_at book new status.WriteFault) m
-    at (inl same) = record { steps = []; all = tt; leads = stop_still book last new m status.WriteFault (ap (λ (it : GateView). it.next) takes.view) emitted_is same (λ counted emitted e. inl e) w }
+    at (inl same) = record { steps = []; all = tt; leads = stop_still book last new m status.WriteFault (ap (λ (it : GateView). it.next) takes.view) emitted_is same (λ counted emitted e. inl e) tt w }
     at (inr added) = record { steps = Release ∷ []; all = (tt, tt); leads = stop_stands book last new m pending tried.0 distinct takes tried.1 emitted_is added w }
 
 pub releases_some_lead : (stop : Fault) (book : BookView) (old new : Point) (m : Machine) → AreDistinct (ids book) → ReleasesSome stop old new → IsWhole (at_point book old) m → LeadsBroken book.catalog (broke_at book new (stop_of stop)) m

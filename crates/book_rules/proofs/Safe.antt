@@ -1,9 +1,8 @@
 -- The book's own load is safe and bounded, and so each call leaves the whole trace.
-use Rattle.std.proofs.Common.{arith, ◌≡◌, ◌⊎◌, inl, inr, ℕ, ◌+◌, ◌<◌, ◌≤◌, List, [], ◌∷◌, ◌++◌, map, length, Option, None, Some, Bool, true, false, refl, sym, ◌∙◌, ap, subst, append_assoc, length-append}
-use Rattle.std.specs.Prelude.{filter, fold, not, IfSome}
+use Rattle.std.proofs.Common.{arith, ◌≡◌, ℕ, ◌+◌, ◌≤◌, List, [], ◌∷◌, ◌++◌, map, length, Option, Some, false, refl, sym, ◌∙◌, ap, subst, length-append}
+use Rattle.std.specs.Prelude.{fold, not, IfSome}
 use Rattle.std.specs.List.{AllByRecursion}
 use Rattle.std.proofs.lemmas.List.{append-nil}
-use Rattle.std.proofs.lemmas.Bool.{false≢true}
 use Rattle.std.proofs.lemmas.Option.{IfSome_then}
 use Rattle.basics.specs.Told.{told_more}
 use Rattle.catalog.specs.declared.stream.ConfStream.{ConfStream}
@@ -14,14 +13,14 @@ use Rattle.outside.specs.declared.event.Event.TheVariants.{Opened}
 use Rattle.outside.specs.declared.load.Limits.{Limits}
 use Rattle.outside.proofs.PlaceLaws.{all_filtered}
 use Rattle.load_rules.specs.Acts.{Act, Takes, IsAct, AreActs}
-use Rattle.load_rules.specs.Bounded.{AreBounded, HoldsAtMost, IsBounded}
+use Rattle.load_rules.specs.Bounded.{HoldsAtMost, IsBounded}
 use Rattle.load_rules.specs.Laws.{IsSafeLast, OpensNothing}
 use Rattle.load_rules.specs.Lines.{IsReading, Line, Reading, ReadsEvent, line_read}
-use Rattle.load_rules.specs.Loads.{Load, Opening, held_in, loads, loads_after, store_events, with_event}
+use Rattle.load_rules.specs.Loads.{Load, Opening, loads, loads_after, store_events, with_event}
 use Rattle.load_rules.specs.Machine.{Machine, Accept, Placed, happens, is_done}
 use Rattle.load_rules.specs.Machine as machine
 use Rattle.load_rules.specs.Prefixes.{EachFits, with_first}
-use Rattle.load_rules.specs.SafeDest.{Fits, IsSafeDest, IsSafeLoad, uncommitted}
+use Rattle.load_rules.specs.SafeDest.{Fits, uncommitted}
 use Rattle.load_rules.specs.Taken.{entries_from}
 use Rattle.load_rules.proofs.Held.{held_are_uncommitted}
 use Rattle.load_rules.proofs.LoadFronts.{goes_on, loads-append, stays_safe}
@@ -32,7 +31,8 @@ use Rattle.book_rules.specs.Holds.{still}
 use Rattle.book_rules.specs.Views.{BookView}
 use Rattle.book_rules.proofs.Acts.{uncommitted_length}
 use Rattle.book_rules.proofs.Lists.{all_append, length_of_map, some_is}
-use Rattle.book_rules.proofs.Taking.{one_more, still_more}
+use Rattle.book_rules.proofs.Moves.{still_more}
+use Rattle.book_rules.proofs.Taking.{one_more}
 
 -- Bounds, act by act and event by event
 

@@ -1,7 +1,7 @@
 -- A book that is started, and a start that is refused.
-use Rattle.std.proofs.Common.{arith, ◌≡◌, ◌⊎◌, inl, inr, ℕ, ◌+◌, ◌<◌, ◌≤◌, ◌^◌, List, [], ◌∷◌, ◌++◌, map, length, Option, None, Some, Bool, true, false, refl, sym, ◌∙◌, ap, subst, get_or}
-use Rattle.std.specs.Prelude.{IfSome, replicate, slice_get, slice_index, fold}
-use Rattle.std.specs.List.{AllByRecursion, list_any}
+use Rattle.std.proofs.Common.{arith, ◌≡◌, ◌⊎◌, inl, inr, ℕ, ◌+◌, ◌<◌, List, [], ◌∷◌, ◌++◌, length, Option, None, Some, true, false, refl, sym, ◌∙◌, ap, subst}
+use Rattle.std.specs.Prelude.{IfSome, replicate, slice_get}
+use Rattle.std.specs.List.{AllByRecursion}
 use Rattle.std.proofs.lemmas.List.{length-replicate, get_or-replicate}
 use Rattle.std.proofs.lemmas.List.Sums.{fold-append}
 use Rattle.std.proofs.lemmas.Option.{slice_get_within, slice_get-get_or}
@@ -11,7 +11,8 @@ use Rattle.catalog.specs.Configured.{AreConfigured}
 use Rattle.catalog.specs.Reading.{ids_of}
 use Rattle.catalog.specs.declared.stream.ConfStream.{ConfStream}
 use Rattle.airbyte_message.specs.declared.stream_status.StreamStatus.{StreamStatus}
-use Rattle.outside.specs.Dock.{AddsOpened, DockSeen, OpenedAs, dock_events, opening as opening_event, took_over_after}
+use Rattle.outside.specs.Dock.{DockSeen, OpenedAs, dock_events, opening as opening_event, took_over_after}
+use Rattle.outside.specs.Limits.{AreLimits}
 use Rattle.outside.specs.Tables.{tables_of}
 use Rattle.outside.specs.declared.event.Event.{Event}
 use Rattle.outside.specs.declared.event.Event.TheVariants.{Opened}
@@ -24,16 +25,15 @@ use Rattle.state_gate.specs.Content.{nothing_for}
 use Rattle.state_gate.specs.Views.{GateView, Stands}
 use Rattle.load_rules.specs.Bounded.{AreBounded, IsBounded}
 use Rattle.load_rules.specs.Engine.{PlansFit}
-use Rattle.load_rules.specs.Lines.{IsReading, Reading}
+use Rattle.load_rules.specs.Lines.{Reading}
 use Rattle.load_rules.specs.Loads.{Opening, loads}
 use Rattle.load_rules.specs.Machine.{start}
 use Rattle.load_rules.specs.SafeDest.{IsSafeDest}
 use Rattle.load_rules.proofs.LoadFronts.{loads-append, opening_is_safe}
-use Rattle.book_rules.specs.Books.{IsBook, KeepsSafeOf, StaySafe, Tallied, Tells}
-use Rattle.book_rules.specs.Laws.{IsBegun, RefusedKeeps, StartsBegin}
-use Rattle.book_rules.specs.Starts.{ArePlansOf, KeepsDock, OpenedFor, RefusedBy, RefusedFor, Starts}
-use Rattle.book_rules.specs.Views.{BookView, ids}
-use Rattle.book_rules.proofs.Acts.{Ran}
+use Rattle.book_rules.specs.Books.{IsBook, KeepsSafeOf, OwnLoadIsSafe, StaySafe, Tells}
+use Rattle.book_rules.specs.Laws.{RefusedKeeps, StartsBegin}
+use Rattle.book_rules.specs.Starts.{RefusedBy, ArePlansOf, OpenedFor, RefusedFor, Starts}
+use Rattle.book_rules.specs.Views.{BookView}
 use Rattle.book_rules.proofs.Lists.{length_of_map, some_is}
 use Rattle.book_rules.proofs.Safe.{own_is_safe}
 use Rattle.book_rules.proofs.Whole.{IsWhole, book_of_whole}
@@ -99,7 +99,7 @@ number_low streams number id named = let lt = slice_get_within (ids_of streams) 
 
 fresh_whole : (streams : List ConfStream) (limits : Limits) (seen : DockSeen) (opening : Opening) (gate : GateView) → Stands (nothing_for (length streams)) gate → gate.streams ≡ length streams → gate.next ≡ 0 → gate.states ≡ 0 → IfSome (dock_events seen) (Tells opening [] []) → IsWhole (fresh_book streams limits seen opening gate) start
 fresh_whole streams limits seen opening gate stands streams_is next states told = record {
-  ran = record { steps = []; runs = refl; safe = tt; bounded = tt; unused_are = tt; told = told };
+  ran = record { steps = []; runs = refl; safe = tt; bounded = tt; good = tt; unused_are = tt; told = told };
   tallied = record { lines = refl; most = omega arith; records = next; lanes = refl; emitted = refl; ended = refl };
   holds = record {
     content = nothing_for (length streams);
@@ -122,6 +122,7 @@ fresh_whole streams limits seen opening gate stands streams_is next states told 
     batch = refl;
     fresh = tt;
     parked = tt;
+    alike = λ number. record { stream = 0; all = tt };
     few = omega arith;
     statuses_many = length-replicate (length streams) absent ∙ sym (ids_long streams);
     statuses = λ number id named. none_status (length streams) number (number_low streams number id named);
@@ -129,8 +130,8 @@ fresh_whole streams limits seen opening gate stands streams_is next states told 
   whole = refl;
 }
 
-fresh_is_book : (streams : List ConfStream) (limits : Limits) (seen : DockSeen) (opening : Opening) (gate : GateView) → AreConfigured streams → PlansFit streams opening.plan → length seen.face.side_marks ≡ length streams → IsWhole (fresh_book streams limits seen opening gate) start → IsBook (fresh_book streams limits seen opening gate)
-fresh_is_book streams limits seen opening gate configured planned as_many w = record { configured = configured; planned = planned; as_many = as_many; queue_streams = refl; machine = start; is = book_of_whole (fresh_book streams limits seen opening gate) start w refl }
+fresh_is_book : (streams : List ConfStream) (limits : Limits) (seen : DockSeen) (opening : Opening) (gate : GateView) → AreConfigured streams → AreLimits limits → PlansFit streams opening.plan → length seen.face.side_marks ≡ length streams → IsWhole (fresh_book streams limits seen opening gate) start → IsBook (fresh_book streams limits seen opening gate)
+fresh_is_book streams limits seen opening gate configured limits_are planned as_many w = record { configured = configured; planned = planned; as_many = as_many; queue_streams = refl; limits_are = limits_are; slots = refl; bytes = refl; batch = refl; parked_small = tt; machine = start; is = book_of_whole (fresh_book streams limits seen opening gate) start w refl }
 
 -- An opening keeps a trace safe and bounded
 
@@ -153,7 +154,7 @@ nothing_opened streams most before now same read old new first second reads =
     record { safe = λ safe. subst (IsSafeDest streams read) (sym is) safe; bounded = λ each. subst (AreBounded most read) (sym is) each }
 
 pub starts_begin : StartsBegin
-starts_begin streams limits before book configured s =
+starts_begin streams limits before book configured limits_are s =
     let fits = plans_fit s.marks streams book.opening.plan s.plans in
     let long = plans_long streams book.opening.plan fits in
     let gate_streams : book.gate.streams ≡ length streams = ap (λ (it : GateView). it.streams) s.gate_is in
@@ -161,7 +162,7 @@ starts_begin streams limits before book configured s =
     let gate_states : book.gate.states ≡ 0 = ap (λ (it : GateView). it.states) s.gate_is in
     let told = told_opened book.opening before.face.moment (dock_events before) (dock_events book.seen) s.opened in
     let w = fresh_whole streams limits book.seen book.opening book.gate s.gate gate_streams gate_next gate_states told in
-    let fresh = fresh_is_book streams limits book.seen book.opening book.gate configured fits (s.face.streams.one_each ∙ long) w in
+    let fresh = fresh_is_book streams limits book.seen book.opening book.gate configured limits_are fits (s.face.streams.one_each ∙ long) w in
     let same : book ≡ fresh_book streams limits book.seen book.opening book.gate = λ i. record { seen = book.seen; catalog = s.catalog i; opening = book.opening; gate = book.gate; queue = s.queue i; tally = s.tally i; statuses = s.statuses i; shown = s.shown i; limits = s.limits_are i } in
     let is : IsBook book = subst (λ (it : BookView). IsBook it) (sym same) fresh in
     record { book = is; own = own_is_safe book is; safe = opening_stays book.catalog (book.limits.slots + 1) book.opening.moment book.opening.plan before book.seen s.opened.added }
@@ -181,8 +182,14 @@ refused_keeps stop streams most before now r = refused_for stop streams most bef
 
 -- The same, clause by clause, as a start cites them.
 
-pub started_book : (streams : List ConfStream) (limits : Limits) (before : DockSeen) (book : BookView) → AreConfigured streams → Starts streams limits before book → IsBook book
-started_book streams limits before book configured s = (starts_begin streams limits before book configured s).book
+pub started_book : (streams : List ConfStream) (limits : Limits) (before : DockSeen) (book : BookView) → AreConfigured streams → AreLimits limits → Starts streams limits before book → IsBook book
+started_book streams limits before book configured limits_are s = (starts_begin streams limits before book configured limits_are s).book
 
-pub started_safe : (streams : List ConfStream) (limits : Limits) (before : DockSeen) (book : BookView) → AreConfigured streams → Starts streams limits before book → KeepsSafeOf book.catalog (book.limits.slots + 1) before book.seen
-started_safe streams limits before book configured s = (starts_begin streams limits before book configured s).safe
+pub started_safe : (streams : List ConfStream) (limits : Limits) (before : DockSeen) (book : BookView) → AreConfigured streams → AreLimits limits → Starts streams limits before book → KeepsSafeOf book.catalog (book.limits.slots + 1) before book.seen
+started_safe streams limits before book configured limits_are s = (starts_begin streams limits before book configured limits_are s).safe
+
+pub started_own : (streams : List ConfStream) (limits : Limits) (before : DockSeen) (book : BookView) → AreConfigured streams → AreLimits limits → Starts streams limits before book → OwnLoadIsSafe book
+started_own streams limits before book configured limits_are s = (starts_begin streams limits before book configured limits_are s).own
+
+pub refused_safe : (stop : Status) (streams : List ConfStream) (most : ℕ) (before now : DockSeen) → RefusedBy stop streams before now → KeepsSafeOf streams most before now
+refused_safe stop streams most before now r = refused_keeps stop streams most before now r

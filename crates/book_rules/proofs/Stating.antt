@@ -1,8 +1,7 @@
 -- A state that is taken.
-use Rattle.std.proofs.Common.{arith, ◌≡◌, ◌⊎◌, inl, inr, ℕ, ◌+◌, ◌<◌, ◌≤◌, ◌^◌, eqb, List, [], ◌∷◌, ◌++◌, map, length, Option, None, Some, Bool, true, false, cond, refl, sym, ◌∙◌, ap, subst, length-append, slice_set}
-use Rattle.std.specs.Prelude.{filter, filter_map, find, fold, not, ◌||◌, IfSome, option_to_list, slice_get, slice_index}
-use Rattle.std.specs.List.{AllByRecursion, list_any}
-use Rattle.std.proofs.lemmas.List.{append-nil, map-append, length-set, get_or-set_same, get_or-set_other}
+use Rattle.std.proofs.Common.{arith, ◌≡◌, ◌⊎◌, inl, inr, ℕ, ◌+◌, ◌<◌, ◌^◌, eqb, List, [], ◌∷◌, ◌++◌, length, Option, None, Some, Bool, false, cond, refl, sym, ◌∙◌, ap, subst, length-append, slice_set}
+use Rattle.std.specs.Prelude.{slice_get, slice_index}
+use Rattle.std.proofs.lemmas.List.{append-nil, length-set, get_or-set_same, get_or-set_other}
 use Rattle.std.proofs.lemmas.Bool.{cases_eq, eq-eqb, ne_eqb, false≢true}
 use Rattle.std.proofs.lemmas.Option.{slice_get_within}
 use Rattle.basics.specs.Told.{told_more}
@@ -13,34 +12,30 @@ use Rattle.airbyte_message.specs.Lanes.{Lane, lane_of}
 use Rattle.airbyte_message.specs.Lanes as lanes
 use Rattle.airbyte_message.specs.Messages.{IsMessage}
 use Rattle.airbyte_message.specs.State.{State}
-use Rattle.airbyte_message.specs.declared.message.Message.{Message}
 use Rattle.airbyte_message.specs.declared.message.Message.TheVariants as message
 use Rattle.outside.specs.Dock.{DockSeen, dock_events}
 use Rattle.outside.specs.Tables.{same_id}
-use Rattle.outside.specs.declared.event.Event.{Event}
+use Rattle.outside.specs.declared.faults.InputKind.TheVariants as input
 use Rattle.outside.specs.declared.event.Event.TheVariants.{Took}
 use Rattle.book_queue.specs.Content.{all_of}
 use Rattle.state_gate.specs.Content.{Content, count_in}
 use Rattle.state_gate.specs.Counts.{without_own, without_all}
-use Rattle.state_gate.specs.Views.{GateView, Stands}
+use Rattle.state_gate.specs.Views.{GateView}
 use Rattle.state_gate.specs.declared.pending.Lane.{Lane as GateLane}
 use Rattle.state_gate.specs.declared.pending.Lane.TheVariants as gate_lane
 use Rattle.state_gate.specs.declared.pending.Waiting.{Waiting}
-use Rattle.load_rules.specs.Acts.{Act, Takes, taken}
-use Rattle.load_rules.specs.Finished.{last_status}
+use Rattle.load_rules.specs.Acts.{Takes, taken}
 use Rattle.load_rules.specs.Lines.{Line}
 use Rattle.load_rules.specs.Machine.{Machine, Placed, accepts}
-use Rattle.load_rules.specs.Taken.{LaneState, entries, since, counts_state, state_of_lane, is_of_lane}
+use Rattle.load_rules.specs.Taken.{LaneState, since, state_of_lane, is_of_lane}
 use Rattle.book_rules.specs.declared.answer.Lanes.{Lanes}
 use Rattle.book_rules.specs.declared.answer.Lanes.TheVariants as kinds
-use Rattle.book_rules.specs.declared.answer.Tally.{Tally}
-use Rattle.book_rules.specs.Accepts.{GateTakesState, with_last, lanes_of, is_other}
-use Rattle.book_rules.specs.Books.{Tallied}
-use Rattle.book_rules.specs.Holds.{Holds, AreHeld, AreWaiting, IsLane, IsWaiting, lanes_after, lanes_by, still}
+use Rattle.book_rules.specs.Accepts.{lane_fault, message_fault, state_fault, GateTakesState, with_last, lanes_of, is_other}
+use Rattle.book_rules.specs.Holds.{AreHeld, AreWaiting, IsLane, IsWaiting, lanes_among, lanes_by, still}
 use Rattle.book_rules.specs.Views.{BookView, ids}
 use Rattle.book_rules.proofs.Heads.{waiting_push}
 use Rattle.book_rules.proofs.Moves.{number_same}
-use Rattle.book_rules.proofs.Taking.{line_as, line_ran, since_line, status_line, tallied_line}
+use Rattle.book_rules.proofs.Taking.{known_fault, line_as, line_ran, since_line, status_line, tallied_line}
 use Rattle.book_rules.proofs.Whole.{IsWhole}
 
 -- counts since the lane's last state
@@ -86,12 +81,18 @@ kind_stays (Some kinds.All) kind lanes.all is same = ap (λ (it : Lanes). Some i
 kind_stays (Some kinds.Streams) kind lanes.all is same = absurd (false≢true (sym same))
 kind_stays (Some kinds.All) kind (lanes.one id) is same = absurd (false≢true (sym same))
 
+lane_fine : (ids_ : List StreamId) (lane : Lane) (own : GateLane) → IsLane ids_ lane own → lane_fault ids_ lane ≡ None
+lane_fine ids_ lanes.all gate_lane.Global is = refl
+lane_fine ids_ (lanes.one id) (gate_lane.Stream stream) is = known_fault ids_ stream id is
+lane_fine ids_ lanes.all (gate_lane.Stream stream) is = absurd is
+lane_fine ids_ (lanes.one id) gate_lane.Global is = absurd is
+
 abbrev pub took_state : BookView → DockSeen → GateView → Lanes → BookView
 took_state book seen gate kind = record book { seen = seen; gate = gate; tally = record (book.tally) { lines = book.tally.lines + 1; lanes = Some kind } }
 
 pub state_whole : (book : BookView) (m : Machine) (seen : DockSeen) (gate : GateView) (text : List ℕ) (state : State) (lane : Lane) (own : GateLane) (kind : Lanes) → AreDistinct (ids book) → IsWhole book m → book.queue.parked ≡ None → IsAnswer (IsMessage text) (Some (message.State state)) → lane_of state.kind ≡ Some lane → IsLane (ids book) lane own → dock_events seen ≡ told_more (Took text ∷ []) (dock_events book.seen) → book.tally.lines + 1 < 2 ^ 32 → kind ≡ lanes_of lane → is_other book.tally.lanes (lanes_of lane) ≡ false → GateTakesState own state book.gate gate → IsWhole (took_state book seen gate kind) (accepts m (line_as text (Some (message.State state))))
 state_whole book m seen gate text state lane own kind distinct w empty answer laned is_lane added few kind_is same takes = record {
-  ran = line_ran book m text (Some (message.State state)) (dock_events seen) w empty answer added;
+  ran = line_ran book m text (Some (message.State state)) (dock_events seen) w empty answer fine added;
   tallied = tallied_line book.tally (record (book.tally) { lines = book.tally.lines + 1; lanes = Some kind }) book.gate.next gate.next m.acts line refl few (kind_stays book.tally.lanes kind lane kind_is same ∙ ap (lanes_by book.tally.lanes) (sym laned)) refl refl refl (let next = takes.next in omega (arith, next)) w.tallied;
   holds = record {
     content = with_last own state book.gate w.holds.content;
@@ -114,6 +115,7 @@ state_whole book m seen gate text state lane own kind distinct w empty answer la
     batch = w.holds.batch;
     fresh = w.holds.fresh;
     parked = w.holds.parked;
+    alike = w.holds.alike;
     few = few;
     statuses_many = w.holds.statuses_many;
     statuses = λ number id named. w.holds.statuses number id named ∙ ap (λ it. Some it) (sym (status_line id m.acts line));
@@ -123,6 +125,9 @@ state_whole book m seen gate text state lane own kind distinct w empty answer la
   where
     line : Line
     line = line_as text (Some (message.State state))
+
+    fine : message_fault (ids book) (lanes_among (taken m.acts)) (message.State state) ≡ None
+    fine = ap (state_fault (ids book) (lanes_among (taken m.acts))) laned ∙ (ap (λ (known : Option Lanes). cond (is_other known (lanes_of lane)) (Some input.Mixed) (lane_fault (ids book) lane)) (sym w.tallied.lanes) ∙ (ap (λ (b : Bool). cond b (Some input.Mixed) (lane_fault (ids book) lane)) same ∙ lane_fine (ids book) lane own is_lane))
 
     lane_state : LaneState
     lane_state = record { lane = lane; state = state; before = taken m.acts }

@@ -1,15 +1,14 @@
 -- A line that is taken, and used.
-use Rattle.std.proofs.Common.{arith, ◌≡◌, ◌⊎◌, inl, inr, ℕ, ◌+◌, ◌<◌, ◌≤◌, ◌^◌, eqb, List, [], ◌∷◌, ◌++◌, map, length, Option, None, Some, Bool, true, false, cond, refl, sym, ◌∙◌, ap, subst, length-append, slice_set}
-use Rattle.std.specs.Prelude.{filter, filter_map, find, fold, not, ◌||◌, IfSome, option_to_list, slice_get, slice_index}
+use Rattle.std.proofs.Common.{arith, ◌≡◌, ◌⊎◌, inl, inr, ℕ, zero, suc, ◌+◌, ◌<◌, ◌≤◌, ◌^◌, eqb, List, [], ◌∷◌, ◌++◌, map, length, Option, None, Some, true, false, cond, refl, sym, ◌∙◌, ap, subst, length-append, slice_set}
+use Rattle.std.specs.Prelude.{filter_map, find, IfSome, option_to_list, slice_get, slice_index}
 use Rattle.std.specs.List.{AllByRecursion, list_any, list_all}
 use Rattle.std.proofs.lemmas.List.{append-nil, map-append, length-set, get_or-set_same, get_or-set_other}
-use Rattle.std.proofs.lemmas.List.Elements.{filter-append, filter_map-append}
+use Rattle.std.proofs.lemmas.List.Elements.{filter_map-append}
 use Rattle.std.proofs.lemmas.List.Sums.{fold-append}
-use Rattle.std.proofs.lemmas.Bool.{cases_eq, eq-eqb, ne_eqb}
+use Rattle.std.proofs.lemmas.Bool.{cases_Bool, cases_eq, eq-eqb, ne_eqb, false≢true, false_from_ne_true, or_left, or_right}
 use Rattle.std.proofs.lemmas.Option.{slice_get_within}
 use Rattle.basics.specs.Told.{told_more}
 use Rattle.basics.specs.declared.stream.StreamId.{StreamId}
-use Rattle.catalog.specs.declared.stream.ConfStream.{ConfStream}
 use Rattle.stream_index.specs.Distinct.{AreDistinct}
 use Rattle.json_fields.specs.Answer.{IsAnswer}
 use Rattle.airbyte_message.specs.Lanes.{Lane, lane_of}
@@ -22,30 +21,32 @@ use Rattle.airbyte_message.specs.declared.message.RecordMsg.{RecordMsg}
 use Rattle.airbyte_message.specs.declared.stream_status.StreamStatus.{StreamStatus}
 use Rattle.outside.specs.Dock.{DockSeen, dock_events}
 use Rattle.outside.specs.Tables.{same_id}
+use Rattle.outside.proofs.TableLaws.{id_is, id_own}
+use Rattle.outside.specs.declared.faults.InputKind.TheVariants as input
 use Rattle.outside.specs.declared.event.Event.{Event}
 use Rattle.outside.specs.declared.event.Event.TheVariants.{Took}
 use Rattle.book_queue.specs.Content.{Held, QueueView, all_of, number_below, queued}
 use Rattle.book_queue.specs.Content as queue
-use Rattle.state_gate.specs.Content.{Content, with_record}
-use Rattle.state_gate.specs.Views.{GateView, Stands}
+use Rattle.state_gate.specs.Content.{with_record}
+use Rattle.state_gate.specs.Views.{GateView}
 use Rattle.load_rules.specs.Acts.{Act, Takes, taken, committed, state_echoed}
 use Rattle.load_rules.specs.Finished.{last_status, status_after}
-use Rattle.load_rules.specs.Lines.{Line, Reading, ReadsEvent, record_in, state_in, status_in}
+use Rattle.load_rules.specs.Lines.{Line, is_known, record_in, state_in, status_in}
 use Rattle.load_rules.specs.Machine.{Machine, Placed, Step, Accept, accepts, is_done, is_releasable}
 use Rattle.load_rules.specs.Machine as machine
 use Rattle.load_rules.specs.Taken.{Entry, LaneState, entries, entries_from, and_record, state_of, covers, covered, since, counts_record, counts_state, is_in}
-use Rattle.load_rules.proofs.Machines.{taken-more, committed-more, length_placed}
+use Rattle.load_rules.proofs.Machines.{taken-more, committed-more}
 use Rattle.load_rules.proofs.TakenLists.{entries-append}
-use Rattle.book_rules.specs.declared.answer.Lanes.{Lanes}
 use Rattle.book_rules.specs.declared.answer.Tally.{Tally}
-use Rattle.book_rules.specs.Accepts.{GateTakesRecord, with_line}
-use Rattle.book_rules.specs.Books.{CountsEchoes, IsQuiet, Tallied}
-use Rattle.book_rules.specs.Holds.{Holds, AreWaiting, IsHeld, AreHeld, accepted_of, is_end, lanes_after, lanes_among, still}
+use Rattle.book_rules.specs.Accepts.{GateTakesRecord, fault_of, lane_fault}
+use Rattle.book_rules.specs.Books.{IsQuiet, Tallied}
+use Rattle.book_rules.specs.Holds.{AreWaiting, IsHeld, AreHeld, accepted_of, is_end, lanes_after, lanes_among, still}
 use Rattle.book_rules.specs.Views.{BookView, ids}
-use Rattle.book_rules.proofs.Acts.{Adds, Ran, ran_act, ends_more, or_false}
-use Rattle.book_rules.proofs.Lists.{all_append, length_of_map}
-use Rattle.book_rules.proofs.Moves.{held_length, held_push, number_same}
-use Rattle.book_rules.proofs.Whole.{IsWhole, whole_good}
+use Rattle.book_rules.proofs.Acts.{Ran, ran_act, ends_more, or_false}
+use Rattle.book_rules.proofs.Lists.{all_append, length_of_map, some_is}
+use Rattle.book_rules.proofs.Moves.{held_length, held_push, number_same, still_more}
+use Rattle.book_rules.proofs.Sealing.{alike_push}
+use Rattle.book_rules.proofs.Whole.{IsWhole}
 
 -- Readings
 
@@ -127,15 +128,8 @@ empty_few book m empty w =
     let room = w.holds.room in
     omega (arith, same, long, none, room)
 
-queued_open : (list : List Entry) → filter (λ (one : Placed). not (is_done one.place)) (map machine.queue list) ≡ map machine.queue list
-queued_open [] = refl
-queued_open (entry ∷ more) = ap (λ list. machine.queue entry ∷ list) (queued_open more)
-
-pub still_more : (placed : List Placed) (list : List Entry) → still (placed ++ map machine.queue list) ≡ still placed ++ map machine.queue list
-still_more placed list = filter-append (λ (one : Placed). not (is_done one.place)) placed (map machine.queue list) ∙ ap (λ more. still placed ++ more) (queued_open list)
-
-pub line_ran : (book : BookView) (m : Machine) (text : List ℕ) (found : Option Message) (now : Option (List Event)) → IsWhole book m → book.queue.parked ≡ None → IsAnswer (IsMessage text) found → now ≡ told_more (Took text ∷ []) (dock_events book.seen) → Ran book.catalog book.opening book.limits.slots (accepts m (line_as text found)) [] now
-line_ran book m text found now w empty answer added = ran_act book.catalog book.opening book.limits.slots m (Accept line) (Takes line) (dock_events book.seen) now w.ran refl tt few (record { event = Took text; added = added; store = refl; opens = refl; is = λ read reads. ap (λ it. line_as text it) (one_answer (IsMessage text) found (read text) answer reads); over = λ b. sym (or_false b) })
+pub line_ran : (book : BookView) (m : Machine) (text : List ℕ) (found : Option Message) (now : Option (List Event)) → IsWhole book m → book.queue.parked ≡ None → IsAnswer (IsMessage text) found → fault_of input.BadLine (ids book) (lanes_among (taken m.acts)) found ≡ None → now ≡ told_more (Took text ∷ []) (dock_events book.seen) → Ran book.catalog book.opening book.limits.slots (accepts m (line_as text found)) [] now
+line_ran book m text found now w empty answer fine added = ran_act book.catalog book.opening book.limits.slots m (Accept line) (Takes line) (dock_events book.seen) now w.ran refl fine tt few (record { event = Took text; added = added; store = refl; opens = refl; is = λ read reads. ap (λ it. line_as text it) (one_answer (IsMessage text) found (read text) answer reads); over = λ b. sym (or_false b) })
   where
     line : Line
     line = line_as text found
@@ -159,6 +153,30 @@ pub quiet_line : (m : Machine) (line : Line) → state_in line.found ≡ None �
 quiet_line m line none quiet =
     let states : (accepts m line).waiting ≡ m.waiting = ap (λ state. m.waiting ++ state_of (taken m.acts) state) none ∙ append-nil m.waiting in
     releasable_as m.acts (m.acts ++ Takes line ∷ []) (committed_line m.acts line) (accepts m line).waiting ∙ (ap (find (is_releasable m.acts)) states ∙ quiet)
+
+-- A stream of the catalog is known, and no other
+
+pub known_is : (ids_ : List StreamId) (number : ℕ) (id : StreamId) → slice_get ids_ number ≡ Some id → is_known ids_ id ≡ true
+known_is [] number id named = cc
+known_is (own ∷ more) zero id named = or_left (same_id own id) (is_known more id) (ap (λ (it : StreamId). same_id it id) (some_is own id named) ∙ id_own id)
+known_is (own ∷ more) (suc number) id named = or_right (same_id own id) (is_known more id) (known_is more number id named)
+
+known_at : (ids_ : List StreamId) (id : StreamId) → is_known ids_ id ≡ true → (number : ℕ) × (slice_get ids_ number ≡ Some id)
+known_at [] id known = absurd (false≢true known)
+known_at (own ∷ more) id known = at (cases_Bool (same_id own id)) (known_at more id)
+  where
+    at : (same_id own id ≡ true) ⊎ (same_id own id ≡ false) → (is_known more id ≡ true → (number : ℕ) × (slice_get more number ≡ Some id)) → (number : ℕ) × (slice_get (own ∷ more) number ≡ Some id)
+    at (inl same) deeper = (zero, ap (λ (it : StreamId). Some it) (id_is own id same))
+    at (inr other) deeper = let found = deeper (rw other at known) in (suc found.0, found.1)
+
+pub unknown_is : (ids_ : List StreamId) (id : StreamId) → ((number : ℕ) → ¬ (slice_get ids_ number ≡ Some id)) → is_known ids_ id ≡ false
+unknown_is ids_ id none = false_from_ne_true (is_known ids_ id) (λ known. let found = known_at ids_ id known in none found.0 found.1)
+
+pub known_fault : (ids_ : List StreamId) (number : ℕ) (id : StreamId) → slice_get ids_ number ≡ Some id → lane_fault ids_ (lanes.one id) ≡ None
+known_fault ids_ number id named = rw (known_is ids_ number id named) refl
+
+pub unknown_fault : (ids_ : List StreamId) (id : StreamId) → ((number : ℕ) → ¬ (slice_get ids_ number ≡ Some id)) → lane_fault ids_ (lanes.one id) ≡ Some input.UnknownStream
+unknown_fault ids_ id none = rw (unknown_is ids_ id none) refl
 
 -- A record
 
@@ -186,6 +204,7 @@ pub record IsPushed (one : Held) (next slots : ℕ) (old new : QueueView) : Type
   pub batch : new.batch ≡ old.batch
   pub fresh : AllByRecursion (λ it. number_below new.next_batch it.place ≡ true) new.held
   pub parked : IfSome new.parked (λ it. it.place ≡ queue.Queued)
+  pub alike : (number : ℕ) → queue.IsOfOneStream number new.held
 
 -- in its place
 pub pushed_in : (book : BookView) (m : Machine) (seq stream : ℕ) (text : List ℕ) → IsWhole book m → book.queue.parked ≡ None → length book.queue.held < book.limits.slots → IsPushed (queued seq stream text) (seq + 1) book.limits.slots book.queue (record (book.queue) { held = book.queue.held ++ queued seq stream text ∷ []; next = seq + 1 })
@@ -199,6 +218,7 @@ pushed_in book m seq stream text w empty room = record {
   batch = refl;
   fresh = all_append (λ it. number_below book.queue.next_batch it.place ≡ true) book.queue.held (queued seq stream text ∷ []) w.holds.fresh (refl, tt);
   parked = w.holds.parked;
+  alike = λ n. alike_push n book.queue.held (queued seq stream text) refl (w.holds.alike n);
 }
 
 -- or parked
@@ -213,6 +233,7 @@ pushed_aside book m seq stream text w empty = record {
   batch = refl;
   fresh = w.holds.fresh;
   parked = refl;
+  alike = w.holds.alike;
 }
 
 abbrev pub took_record : BookView → DockSeen → GateView → QueueView → BookView
@@ -220,7 +241,7 @@ took_record book seen gate now = record book { seen = seen; gate = gate; queue =
 
 pub record_whole : (book : BookView) (m : Machine) (seen : DockSeen) (gate : GateView) (now : QueueView) (text : List ℕ) (content : RecordMsg) (stream : ℕ) → AreDistinct (ids book) → IsWhole book m → book.queue.parked ≡ None → IsAnswer (IsMessage text) (Some (message.Rec content)) → slice_get (ids book) stream ≡ Some content.id → dock_events seen ≡ told_more (Took text ∷ []) (dock_events book.seen) → book.tally.lines + 1 < 2 ^ 32 → GateTakesRecord stream book.gate gate → IsPushed (queued book.gate.next stream text) (book.gate.next + 1) book.limits.slots book.queue now → IsWhole (took_record book seen gate now) (accepts m (line_as text (Some (message.Rec content))))
 record_whole book m seen gate now text content stream distinct w empty answer named added few takes pushed = record {
-  ran = line_ran book m text (Some (message.Rec content)) (dock_events seen) w empty answer added;
+  ran = line_ran book m text (Some (message.Rec content)) (dock_events seen) w empty answer (known_fault (ids book) stream content.id named) added;
   tallied = tallied_line book.tally (record (book.tally) { lines = book.tally.lines + 1 }) book.gate.next gate.next m.acts line refl few refl refl refl refl takes.next w.tallied;
   holds = record {
     content = with_record w.holds.content stream book.gate.next;
@@ -243,6 +264,7 @@ record_whole book m seen gate now text content stream distinct w empty answer na
     batch = pushed.batch ∙ w.holds.batch;
     fresh = pushed.fresh;
     parked = pushed.parked;
+    alike = pushed.alike;
     few = few;
     statuses_many = w.holds.statuses_many;
     statuses = λ number id own. w.holds.statuses number id own ∙ ap (λ last. Some last) (sym (status_line id m.acts line));
@@ -273,9 +295,9 @@ took_other book seen statuses = record book { seen = seen; tally = record (book.
 abbrev pub StatusesFit : BookView → Machine → Option Message → List (Option StreamStatus) → Type 0
 StatusesFit book m found statuses = (number : ℕ) (id : StreamId) → slice_get (ids book) number ≡ Some id → slice_get statuses number ≡ Some (status_after id (last_status id (taken m.acts)) (status_in found))
 
-pub other_whole : (book : BookView) (m : Machine) (seen : DockSeen) (statuses : List (Option StreamStatus)) (text : List ℕ) (found : Option Message) → IsWhole book m → book.queue.parked ≡ None → IsAnswer (IsMessage text) found → record_in found ≡ None → state_in found ≡ None → dock_events seen ≡ told_more (Took text ∷ []) (dock_events book.seen) → book.tally.lines + 1 < 2 ^ 32 → length statuses ≡ length (ids book) → StatusesFit book m found statuses → IsWhole (took_other book seen statuses) (accepts m (line_as text found))
-other_whole book m seen statuses text found w empty answer no_record no_state added few many fit = record {
-  ran = line_ran book m text found (dock_events seen) w empty answer added;
+pub other_whole : (book : BookView) (m : Machine) (seen : DockSeen) (statuses : List (Option StreamStatus)) (text : List ℕ) (found : Option Message) → IsWhole book m → book.queue.parked ≡ None → IsAnswer (IsMessage text) found → record_in found ≡ None → state_in found ≡ None → fault_of input.BadLine (ids book) (lanes_among (taken m.acts)) found ≡ None → dock_events seen ≡ told_more (Took text ∷ []) (dock_events book.seen) → book.tally.lines + 1 < 2 ^ 32 → length statuses ≡ length (ids book) → StatusesFit book m found statuses → IsWhole (took_other book seen statuses) (accepts m (line_as text found))
+other_whole book m seen statuses text found w empty answer no_record no_state fine added few many fit = record {
+  ran = line_ran book m text found (dock_events seen) w empty answer fine added;
   tallied = tallied_line book.tally (record (book.tally) { lines = book.tally.lines + 1 }) book.gate.next book.gate.next m.acts line refl few (sym (ap (lanes_after book.tally.lanes) no_state)) refl refl refl nothing w.tallied;
   holds = record {
     content = w.holds.content;
@@ -298,6 +320,7 @@ other_whole book m seen statuses text found w empty answer no_record no_state ad
     batch = w.holds.batch;
     fresh = w.holds.fresh;
     parked = w.holds.parked;
+    alike = w.holds.alike;
     few = few;
     statuses_many = many;
     statuses = λ number id own. fit number id own ∙ ap (λ last. Some last) (sym (status_line id m.acts line));

@@ -1,5 +1,6 @@
 -- What a call on the input does.
-use Rattle.std.specs.Prelude.{◌≡◌, ◌⊎◌, ℕ, ◌+◌, ◌^◌, List, [], ◌∷◌, ◌++◌, length, slice_set, nat_lt, Bool, true, false, IsTrue, ◌↔◌, Option, None, Some, Result, Ok, Err}
+use Rattle.std.specs.Prelude.{◌≡◌, ◌⊎◌, ℕ, ◌+◌, ◌^◌, List, [], ◌∷◌, ◌++◌, length, slice_set, nat_lt, Bool, true, false, IsTrue, ◌↔◌, if◌then◌else◌, Option, None, Some, Result, Ok, Err}
+use Rattle.basics.specs.declared.stream.StreamId.{StreamId}
 use Rattle.json_fields.specs.Answer.{IsAnswer}
 use Rattle.airbyte_message.specs.Lanes.{Lane, one, all, lane_of}
 use Rattle.airbyte_message.specs.Messages.{IsMessage}
@@ -20,7 +21,7 @@ use Rattle.state_gate.specs.Views.{GateView, Stands}
 use Rattle.state_gate.specs.declared.pending.Lane.{Lane as GateLane}
 use Rattle.state_gate.specs.declared.pending.Lane.TheVariants as gate_lane
 use Rattle.book_queue.specs.Content.{QueueView, Held, HasRoom, Sealed, is_in_queue, move, queued, sealed_full, sealed_oldest, sealed_whole}
-use Rattle.load_rules.specs.Lines.{Status as Told, status_told}
+use Rattle.load_rules.specs.Lines.{Status as Told, is_known, status_told}
 use Rattle.book_rules.specs.declared.answer.Accepted.{Accepted}
 use Rattle.book_rules.specs.declared.answer.Accepted.TheVariants as accepted
 use Rattle.book_rules.specs.declared.answer.Lanes.{Lanes}
@@ -254,3 +255,29 @@ AnswersUnless None false result old new = Breaks status.NoMemory result old new 
 -- wanting; and then a record that waits for room is tried again, or else the input is polled.
 abbrev pub AcceptAnswer : Accepted → BookView → BookView → Type 0
 AcceptAnswer result old new = AnswersUnless old.tally.broken old.tally.is_ended result old new
+
+-- What is wrong with a line, by itself
+
+-- a lane of a stream that the catalog does not have
+abbrev pub lane_fault : List StreamId → Lane → Option InputKind
+lane_fault ids all = None
+lane_fault ids (one id) = if is_known ids id then None else Some input.UnknownStream
+
+abbrev pub state_fault : List StreamId → Option Lanes → Option Lane → Option InputKind
+state_fault ids known None = Some input.Legacy
+state_fault ids known (Some lane) = if is_other known (lanes_of lane) then Some input.Mixed else lane_fault ids lane
+
+abbrev pub message_fault : List StreamId → Option Lanes → Message → Option InputKind
+message_fault ids known (message.Rec content) = lane_fault ids (one content.id)
+message_fault ids known (message.State state) = state_fault ids known (lane_of state.kind)
+message_fault ids known (message.Trace content) = None
+message_fault ids known (message.Log content) = None
+message_fault ids known (message.Spec content) = None
+message_fault ids known (message.Connection content) = None
+message_fault ids known (message.Catalog content) = None
+message_fault ids known (message.Control content) = None
+
+-- The first fault of a line, behind states of this kind; `unread` is that of a line that is no message.
+abbrev pub fault_of : InputKind → List StreamId → Option Lanes → Option Message → Option InputKind
+fault_of unread ids known None = Some unread
+fault_of unread ids known (Some content) = message_fault ids known content

@@ -1,24 +1,37 @@
 -- What every book is: a run of the machine, and what its dock tells is the load of that run.
-use Rattle.std.specs.Prelude.{◌≡◌, ◌⊎◌, ℕ, ◌+◌, ◌≤◌, ◌^◌, List, [], ◌∷◌, ◌++◌, map, filter_map, length, Option, None, Some, IfSome, find}
+use Rattle.std.specs.Prelude.{◌≡◌, ◌⊎◌, ℕ, ◌+◌, ◌-◌, ◌≤◌, ◌^◌, List, [], ◌∷◌, ◌++◌, map, filter_map, length, Option, None, Some, IfSome, find}
 use Rattle.std.specs.List.{AllByRecursion, list_any}
 use Rattle.outside.specs.Dock.{DockSeen, dock_events, took_over}
+use Rattle.outside.specs.Limits.{AreLimits}
 use Rattle.outside.specs.declared.event.Event.{Event}
+use Rattle.outside.specs.declared.event.RawRow.{RawRow}
+use Rattle.outside.specs.declared.faults.InputKind.{InputKind}
+use Rattle.outside.specs.declared.faults.InputKind.TheVariants as input
+use Rattle.outside.specs.declared.link.PollKind.{PollKind}
+use Rattle.outside.specs.declared.link.PollKind.TheVariants as poll_kind
 use Rattle.outside.specs.declared.status.Status.{Status}
 use Rattle.outside.specs.declared.status.Status.TheVariants as status
+use Rattle.basics.specs.declared.limits.TheConstants.{LONGEST_LINE}
+use Rattle.basics.specs.declared.stream.StreamId.{StreamId}
+use Rattle.json_fields.specs.Answer.{IsAnswer}
+use Rattle.airbyte_message.specs.Messages.{IsMessage}
+use Rattle.airbyte_message.specs.declared.message.Message.{Message}
 use Rattle.catalog.specs.Configured.{AreConfigured}
 use Rattle.catalog.specs.declared.stream.ConfStream.{ConfStream}
-use Rattle.load_rules.specs.Acts.{Act, Takes, AreActs, taken, state_echoed}
+use Rattle.book_queue.specs.Content.{Held, all_of}
+use Rattle.load_rules.specs.Acts.{Act, Commits, Takes, AreActs, committed, taken, state_echoed}
 use Rattle.load_rules.specs.Bounded.{AreBounded, IsBounded}
 use Rattle.load_rules.specs.Engine.{PlansFit}
-use Rattle.load_rules.specs.Lines.{Reading, IsReading, line_read}
+use Rattle.load_rules.specs.Lines.{Line, Reading, IsReading, line_read}
 use Rattle.load_rules.specs.Loads.{Load, Opening, loads}
 use Rattle.load_rules.specs.Machine.{Machine, Step, Accept, End, Seal, HandOut, Commit, TakeBack, Release, start, run, is_releasable}
 use Rattle.load_rules.specs.Prefixes.{EachFits}
 use Rattle.load_rules.specs.Taken.{entries}
 use Rattle.load_rules.specs.SafeDest.{Fits, uncommitted, IsSafeDest, IsSafeLoad}
 use Rattle.book_rules.specs.declared.answer.Tally.{Tally}
+use Rattle.book_rules.specs.Accepts.{fault_of}
 use Rattle.book_rules.specs.Holds.{Holds, is_end, lanes_among}
-use Rattle.book_rules.specs.Views.{BookView}
+use Rattle.book_rules.specs.Views.{BookView, ids}
 
 -- at most so many records are taken and not committed behind an act
 abbrev pub HoldsFew : ℕ → List Act → Act → Type 0
@@ -51,6 +64,47 @@ pub record Tallied (tally : Tally) (next : ℕ) (acts : List Act) (unused : List
   pub emitted : CountsEchoes tally.broken tally.emitted (length (filter_map state_echoed acts))
   pub ended : list_any is_end acts ≡ tally.is_ended
 
+-- So many were committed before a commit whose rows may stand or not.
+pub record StandsBehind (count : ℕ) (acts : List Act) : Type 0 where
+  pub front : List Act
+  pub number : ℕ
+  pub rows : List RawRow
+  pub splits : acts ≡ front ++ Commits number rows ∷ []
+  pub count_is : length (committed front) ≡ count
+
+abbrev pub CountsCommits : Option Status → ℕ → List Act → Type 0
+CountsCommits (Some status.StoreFault) count acts = (length (committed acts) ≡ count) ⊎ StandsBehind count acts
+CountsCommits broken count acts = length (committed acts) ≡ count
+
+-- Of so many records some are held, and the others are committed; where a commit failed, its rows may stand, though they are held.
+pub record CountsRecords (broken : Option Status) (next held : ℕ) (acts : List Act) : Type 0 where
+  pub within : held ≤ next
+  pub committed_are : CountsCommits broken (next - held) acts
+
+-- a line that has no fault behind these
+abbrev pub IsGoodLine : List StreamId → List Line → Line → Type 0
+IsGoodLine ids before line = fault_of input.BadLine ids (lanes_among before) line.found ≡ None
+
+-- the line that was taken last has this fault first
+pub record IsRefused (unread kind : InputKind) (ids : List StreamId) (acts : List Act) (unused : List (List ℕ)) : Type 0 where
+  pub line : List ℕ
+  pub last : unused ≡ line ∷ []
+  pub found : Option Message
+  pub read : IsAnswer (IsMessage line) found
+  pub fault : fault_of unread ids (lanes_among (taken acts)) found ≡ Some kind
+
+-- Why a book is broken: by the first line with a fault, with its number; or by a fault of its dock, or want of memory.
+abbrev pub BrokeBy : List StreamId → ℕ → PollKind → List Act → List (List ℕ) → Status → Type 0
+BrokeBy ids lines poll acts unused (status.BadInput input.TooLong number) = (number ≡ lines + 1) × (unused ≡ []) × (poll ≡ poll_kind.TooLong)
+BrokeBy ids lines poll acts unused (status.BadInput input.TornTail number) = (number ≡ lines) × (poll ≡ poll_kind.Torn) × IsRefused input.TornTail input.TornTail ids acts unused
+BrokeBy ids lines poll acts unused (status.BadInput kind number) = (number ≡ lines) × IsRefused input.BadLine kind ids acts unused
+BrokeBy ids lines poll acts unused status.TooManyLines = lines ≡ 2 ^ 32
+BrokeBy ids lines poll acts unused status.StoreFault = Unit {0}
+BrokeBy ids lines poll acts unused status.ReadFault = Unit {0}
+BrokeBy ids lines poll acts unused status.WriteFault = Unit {0}
+BrokeBy ids lines poll acts unused status.NoMemory = Unit {0}
+BrokeBy ids lines poll acts unused stop = ⊥
+
 -- no line, or one where a record more may be held
 abbrev pub AreUnused : ℕ → List Act → List (List ℕ) → Type 0
 AreUnused slots acts [] = Unit {0}
@@ -68,6 +122,9 @@ pub record Reached (book : BookView) (m : Machine) : Type 0 where
   pub used : book.tally.broken ≡ None → unused ≡ []
   pub told : IfSome (dock_events book.seen) (Tells book.opening m.acts unused)
   pub tallied : Tallied book.tally book.gate.next m.acts unused
+  pub good : EachFits (IsGoodLine (ids book)) [] (taken m.acts)
+  pub why : IfSome book.tally.broken (BrokeBy (ids book) book.tally.lines book.seen.face.poll m.acts unused)
+  pub counted : CountsRecords book.tally.broken book.gate.next (length (all_of book.queue)) m.acts
 
 -- No state that waits may go.
 abbrev pub IsQuiet : Machine → Type 0
@@ -79,11 +136,20 @@ pub record IsBookOf (book : BookView) (m : Machine) : Type 0 where
   pub holds : book.tally.broken ≡ None → Holds book m
   pub quiet : book.tally.broken ≡ None → IsQuiet m
 
+-- a record that waits for room is no longer than a line may be
+abbrev pub IsSmall : Option Held → Type 0
+IsSmall parked = IfSome parked (λ one. length one.line ≤ LONGEST_LINE)
+
 pub record IsBook (book : BookView) : Type 0 where
   pub configured : AreConfigured book.catalog
   pub planned : PlansFit book.catalog book.opening.plan
   pub as_many : length book.seen.face.side_marks ≡ length book.catalog
   pub queue_streams : book.queue.streams ≡ length book.catalog
+  pub limits_are : AreLimits book.limits
+  pub slots : book.queue.slots ≡ book.limits.slots
+  pub bytes : book.queue.bytes ≡ book.limits.bytes
+  pub batch : book.queue.batch ≡ book.limits.batch
+  pub parked_small : IsSmall book.queue.parked
   pub machine : Machine
   pub is : IsBookOf book machine
 
@@ -117,7 +183,7 @@ abbrev pub KeepsSafe : BookView → BookView → Type 0
 KeepsSafe old new = KeepsSafeOf old.catalog (old.limits.slots + 1) old.seen new.seen
 
 -- What a call is to the machine: accept takes at most once, then seals, then releases; pick hands out at most once; put is one commit
--- with its releases; a batch is taken back by its number; recall takes back.
+-- with its releases; give_back takes the batch back by its number; recall takes back.
 abbrev pub IsTaking : Step → Type 0
 IsTaking (Accept line) = Unit {0}
 IsTaking End = Unit {0}
@@ -134,10 +200,6 @@ IsReleasing step = ⊥
 abbrev pub IsTakingBack : Step → Type 0
 IsTakingBack (TakeBack id batch) = Unit {0}
 IsTakingBack step = ⊥
-
-abbrev pub IsTakingBackOf : ℕ → Step → Type 0
-IsTakingBackOf number (TakeBack id batch) = batch ≡ number
-IsTakingBackOf number step = ⊥
 
 pub record IsAcceptRun (steps : List Step) : Type 0 where
   pub takes : List Step
@@ -160,7 +222,9 @@ IsPutRun (Commit number id batch rows ∷ frees) = AllByRecursion IsReleasing fr
 IsPutRun steps = ⊥
 
 abbrev pub IsGiveBackRun : ℕ → List Step → Type 0
-IsGiveBackRun number steps = AllByRecursion (IsTakingBackOf number) steps
+IsGiveBackRun number [] = Unit {0}
+IsGiveBackRun number (TakeBack id batch ∷ []) = batch ≡ number
+IsGiveBackRun number steps = ⊥
 
 abbrev pub IsRecallRun : List Step → Type 0
 IsRecallRun steps = AllByRecursion IsTakingBack steps

@@ -1,11 +1,10 @@
 -- What one call on a dock did, as far as a book tells of it.
-use Rattle.std.specs.Prelude.{◌≡◌, ℕ, List, Result, Err, IsErrOf}
+use Rattle.std.specs.Prelude.{◌≡◌, ℕ, List, Result, IsErrOf}
 use Rattle.basics.specs.Told.{RoseIf}
 use Rattle.outside.specs.Link.{AddsOn, kind_of, QuietPoll}
 use Rattle.outside.specs.Hand.{HandPolls, HandEmits}
 use Rattle.outside.specs.Dock.{DockSeen, DockGrew, DockMoves, dock_events, TookAdds, IsWithinLimit}
-use Rattle.outside.specs.declared.event.Event.TheVariants.{Committed, Emitted}
-use Rattle.outside.specs.declared.event.RawRow.{RawRow}
+use Rattle.outside.specs.declared.event.Event.TheVariants.{Emitted}
 use Rattle.outside.specs.declared.fault.Fault.{Fault}
 use Rattle.outside.specs.declared.fault.Fault.TheVariants.{Failed}
 use Rattle.outside.specs.declared.link.Polled.{Polled}

@@ -1,24 +1,23 @@
 -- What the fields of a book stand for: a state of the machine behind its load.
-use Rattle.std.specs.Prelude.{◌≡◌, ◌≢◌, ℕ, ◌+◌, ◌<◌, ◌≤◌, ◌^◌, List, [], ◌∷◌, map, filter, filter_map, fold, length, slice_get, slice_index, not, Bool, true, false, Option, None, Some, IfSome}
-use Rattle.std.specs.List.{AllByRecursion, list_any}
+use Rattle.std.specs.Prelude.{◌≡◌, ◌≢◌, ℕ, ◌+◌, ◌<◌, ◌≤◌, ◌^◌, List, [], ◌∷◌, map, filter, fold, length, slice_get, slice_index, not, Bool, true, false, Option, None, Some, IfSome}
+use Rattle.std.specs.List.{AllByRecursion}
 use Rattle.basics.specs.declared.stream.StreamId.{StreamId}
 use Rattle.airbyte_message.specs.Lanes.{Lane, one, all, lane_of}
 use Rattle.airbyte_message.specs.Messages.{IsMessage}
 use Rattle.airbyte_message.specs.State.{State}
 use Rattle.airbyte_message.specs.declared.message.Message.TheVariants as message
 use Rattle.airbyte_message.specs.declared.message.StateKind.TheVariants.{Legacy}
-use Rattle.airbyte_message.specs.declared.stream_status.StreamStatus.{StreamStatus}
 use Rattle.state_gate.specs.Content.{Content}
 use Rattle.state_gate.specs.Views.{GateView, Stands}
 use Rattle.state_gate.specs.declared.pending.Accepted.{Accepted}
 use Rattle.state_gate.specs.declared.pending.Lane.{Lane as GateLane}
 use Rattle.state_gate.specs.declared.pending.Lane.TheVariants as gate_lane
 use Rattle.state_gate.specs.declared.pending.Waiting.{Waiting}
-use Rattle.book_queue.specs.Content.{Held, all_of, number_below}
+use Rattle.book_queue.specs.Content.{Held, IsOfOneStream, all_of, number_below}
 use Rattle.book_queue.specs.Content as queue_place
 use Rattle.load_rules.specs.Lines.{Line, state_in}
 use Rattle.load_rules.specs.Taken.{LaneState, entries, since, count_of}
-use Rattle.load_rules.specs.Acts.{Act, Ends, taken, state_echoed}
+use Rattle.load_rules.specs.Acts.{Act, Ends, taken}
 use Rattle.load_rules.specs.Finished.{last_status}
 use Rattle.load_rules.specs.Machine.{Machine, Place, Placed, is_done}
 use Rattle.load_rules.specs.Machine as machine
@@ -116,6 +115,7 @@ pub record Holds (book : BookView) (m : Machine) : Type 0 where
   pub bytes : book.queue.bytes ≡ book.limits.bytes
   pub batch : book.queue.batch ≡ book.limits.batch
   pub fresh : AllByRecursion (λ one. number_below book.queue.next_batch one.place ≡ true) book.queue.held
+  pub alike : (number : ℕ) → IsOfOneStream number book.queue.held
   pub parked : IfSome book.queue.parked (λ one. one.place ≡ queue_place.Queued)
   -- the lines
   pub few : book.tally.lines < 2 ^ 32

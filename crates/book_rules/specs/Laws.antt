@@ -6,6 +6,7 @@ use Rattle.catalog.specs.declared.stream.ConfStream.{ConfStream}
 use Rattle.batch_prep.specs.Items.{Batch}
 use Rattle.batch_prep.specs.declared.item.WorkItem.{WorkItem}
 use Rattle.outside.specs.Dock.{DockGrew, DockMoves, DockSeen}
+use Rattle.outside.specs.Limits.{AreLimits}
 use Rattle.outside.specs.declared.load.Limits.{Limits}
 use Rattle.outside.specs.declared.status.Status.{Status}
 use Rattle.load_rules.specs.Machine.{Step}
@@ -67,7 +68,7 @@ pub record IsBegun (before : DockSeen) (begun : BookView) : Type 0 where
   pub safe : KeepsSafeOf begun.catalog (begun.limits.slots + 1) before begun.seen
 
 abbrev pub StartsBegin : Type 0
-StartsBegin = (streams : List ConfStream) (limits : Limits) (before : DockSeen) (book : BookView) → AreConfigured streams → Starts streams limits before book → IsBegun before book
+StartsBegin = (streams : List ConfStream) (limits : Limits) (before : DockSeen) (book : BookView) → AreConfigured streams → AreLimits limits → Starts streams limits before book → IsBegun before book
 
 -- so does a start that is refused
 abbrev pub RefusedKeeps : Type 0

@@ -20,7 +20,6 @@ use Rattle.column_types.specs.Columns.{AreColumns}
 use Rattle.state_gate.specs.Content.{Content, with_committed}
 use Rattle.state_gate.specs.Views.{GateView, Stands}
 use Rattle.book_queue.specs.Content.{HandsOut, IsBatchOf, Sealed, batch_of, is_handed_out, is_in_batch, move, ready_of}
-use Rattle.load_rules.specs.Loads.{Opening}
 use Rattle.book_rules.specs.declared.answer.Put.{Put}
 use Rattle.book_rules.specs.declared.answer.Put.TheVariants as put
 use Rattle.book_rules.specs.Accepts.{broken_by}

@@ -1,5 +1,5 @@
 -- States that are released one after another.
-use Rattle.std.specs.Prelude.{◌≡◌, ◌⊎◌, ℕ, zero, suc, ◌+◌, List, Option, None, Some, Result, Ok, Err}
+use Rattle.std.specs.Prelude.{◌≡◌, ◌⊎◌, ℕ, zero, suc, ◌+◌, List, None, Some, Result, Ok, Err}
 use Rattle.airbyte_message.specs.Echo.{IsEcho}
 use Rattle.outside.specs.Dock.{DockSeen}
 use Rattle.outside.specs.declared.fault.Fault.{Fault}

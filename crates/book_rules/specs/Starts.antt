@@ -1,5 +1,5 @@
 -- How a book is started.
-use Rattle.std.specs.Prelude.{◌≡◌, ◌⊎◌, ℕ, ◌<◌, List, [], ◌∷◌, map, length, replicate, slice_get, nat_lt, false, Option, None, Some, IfSome}
+use Rattle.std.specs.Prelude.{◌≡◌, ◌⊎◌, ℕ, ◌<◌, List, [], ◌∷◌, map, length, replicate, slice_get, nat_lt, false, None, Some, IfSome}
 use Rattle.basics.specs.Told.{Rose}
 use Rattle.basics.specs.declared.stream.StreamId.{StreamId}
 use Rattle.outside.specs.Dock.{DockSeen, DockGrew, OpensFace, OpenedAs, dock_events, tables, AddsOpened}
