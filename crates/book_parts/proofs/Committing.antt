@@ -1,6 +1,6 @@
 -- A batch of a queue, and what the gate has of it.
-use Rattle.std.proofs.Common.{arith, ◌≡◌, ◌⊎◌, inl, inr, ℕ, ◌+◌, ◌<◌, ◌≤◌, List, [], ◌∷◌, ◌++◌, map, length, find, refl, sym, ◌∙◌, ap, subst, Bool, true, false, Option, None, Some, option_map, unwrap_or}
-use Rattle.std.specs.Prelude.{All, Contains, filter, ◌==◌, option_to_list}
+use Rattle.std.proofs.Common.{arith, ◌≡◌, ◌⊎◌, inl, inr, ℕ, ◌+◌, ◌<◌, List, [], ◌∷◌, ◌++◌, map, refl, sym, ◌∙◌, ap, subst, true, false, Some, unwrap_or}
+use Rattle.std.specs.Prelude.{All, Contains, ◌==◌, option_to_list}
 use Rattle.std.specs.List.{AllByRecursion, list_any}
 use Rattle.std.proofs.lemmas.Bool.{cases_Bool, false≢true}
 use Rattle.std.proofs.lemmas.List.Elements.{All-contains_itself, All-from_recursion, recursion_from_All}
@@ -22,6 +22,7 @@ none_below seq low high batch (held ∷ xs) ys below rise = at (cases_Bool (is_i
   where
     above : seq < held.seq
     above = omega (arith, rise.0, below)
+
     at : (is_in_batch batch held ≡ true) ⊎ (is_in_batch batch held ≡ false) → list_any (λ other. other == seq) (seqs_of (batch_of batch xs)) ≡ false → list_any (λ other. other == seq) (seqs_of (batch_of batch (held ∷ xs))) ≡ false
     at (inl own) rest = rw own (grind (arith, above, rest))
     at (inr other) rest = rw other rest

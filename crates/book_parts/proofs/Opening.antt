@@ -9,10 +9,7 @@ use Rattle.catalog.specs.declared.stream.ConfStream.{ConfStream}
 use Rattle.column_types.specs.Columns.{AreColumns}
 use Rattle.column_types.specs.declared.column.Column.{Column}
 use Rattle.load_rules.specs.Engine.{PlansFit}
-use Rattle.load_rules.specs.Loads.{Opening}
-use Rattle.book_rules.specs.Puts.{IsPlanFor}
 use Rattle.book_rules.specs.Starts.{AreColumnsOf}
-use Rattle.book_rules.specs.Views.{BookView}
 use Rattle.book_parts.specs.Opened.{HasPlaces, IsNumbered, IsPrepPlan, OpenedView}
 
 many_plans : (streams : List ConfStream) (plans : List StreamPlan) → PlansFit streams plans → length plans ≡ length streams

@@ -1,10 +1,10 @@
 -- The plan of a load, stream by stream.
-use Rattle.std.proofs.Common.{arith, ◌≡◌, ◌⊎◌, inl, inr, ℕ, zero, suc, ◌+◌, ◌<◌, ◌≤◌, ◌%◌, List, [], ◌∷◌, ◌++◌, map, length, take, refl, sym, ◌∙◌, ap, subst, Bool, true, false, Option, None, Some, eq-eqb}
+use Rattle.std.proofs.Common.{arith, ◌≡◌, ◌⊎◌, inl, inr, ℕ, zero, suc, ◌+◌, ◌<◌, ◌≤◌, ◌%◌, List, [], ◌∷◌, ◌++◌, map, length, take, refl, sym, ◌∙◌, ap, subst, true, false, None, Some, eq-eqb}
 use Rattle.std.specs.Prelude.{slice_get, filter, ◌==◌}
 use Rattle.std.specs.List.{AllByRecursion, enumerate_from}
 use Rattle.std.proofs.lemmas.Bool.{cases_Bool}
 use Rattle.std.proofs.lemmas.List.{map-append, take_more, take_all}
-use Rattle.std.proofs.lemmas.Option.{none-some, get_or_from_slice_get, slice_get-map, slice_get_within}
+use Rattle.std.proofs.lemmas.Option.{none-some, get_or_from_slice_get, slice_get_within}
 use Rattle.basics.specs.declared.stream.StreamId.{StreamId}
 use Rattle.outside.specs.Dock.{HasOtherId, HasOwnIds}
 use Rattle.outside.specs.Tables.{same_id}
@@ -66,6 +66,7 @@ not_lacking mark stream plan is lacks = at (subst (λ generation. HasGeneration 
   where
     overwrites : IsOverwrite stream.dest
     overwrites = subst IsOverwrite (sym lacks.overwrites) tt
+
     at : HasGeneration mark stream plan None → ⊥
     at (inl new) = none-some plan.generation (sym lacks.spent ∙ new.1)
     at (inr old) = old.0 overwrites
@@ -78,8 +79,8 @@ lacks_first marks streams n plans mark stream marked configured all lacks = reco
   configured = configured;
   lacks = lacks;
   others = λ other one before below marked_one configured_one.
-    let has = plan_at (take n marks) (take n streams) plans other one before all (got_before marks n other below ∙ marked_one) (got_before streams n other below ∙ configured_one) in
-    not_lacking one before has.plan has.is;
+      let has = plan_at (take n marks) (take n streams) plans other one before all (got_before marks n other below ∙ marked_one) (got_before streams n other below ∙ configured_one) in
+      not_lacking one before has.plan has.is;
 }
 
 -- the plan is the catalog's
@@ -106,10 +107,10 @@ pub own_ids : (streams : List ConfStream) (plans : List StreamPlan) → PlansFit
 own_ids [] [] fit distinct = tt
 own_ids [] (plan ∷ plans) fit distinct = absurd fit
 own_ids (stream ∷ streams) [] fit distinct = absurd fit
-own_ids (stream ∷ streams) (plan ∷ plans) fit distinct =
-    ( others_apart plan.id streams plans fit.1 (λ k here. let same = distinct zero (suc k) stream.id refl (here ∙ ap Some fit.0.id) in omega arith)
-    , own_ids streams plans fit.1 (later_distinct stream.id (ids_of streams) distinct)
-    )
+own_ids (stream ∷ streams) (plan ∷ plans) fit distinct = (
+  others_apart plan.id streams plans fit.1 (λ k here. let same = distinct zero (suc k) stream.id refl (here ∙ ap Some fit.0.id) in omega arith),
+  own_ids streams plans fit.1 (later_distinct stream.id (ids_of streams) distinct),
+)
 
 -- Columns and ids
 

@@ -1,25 +1,21 @@
 -- The steps of a put.
-use Rattle.std.proofs.Common.{◌≡◌, ◌⊎◌, inl, inr, ℕ, List, [], ◌∷◌, length, refl, sym, ◌∙◌, ap, subst, Bool, true, false, Option, None, Some, Result, Ok, Err}
-use Rattle.std.specs.Prelude.{filter, not, if◌then◌else◌}
+use Rattle.std.proofs.Common.{◌≡◌, ◌⊎◌, inl, inr, ℕ, List, [], ◌∷◌, refl, sym, ◌∙◌, ap, subst, Bool, true, false, Option, None, Some, Ok, Err}
+use Rattle.std.specs.Prelude.{filter, not}
 use Rattle.std.specs.List.{list_any}
 use Rattle.std.proofs.lemmas.Bool.{cases_Bool, false≢true}
-use Rattle.std.proofs.lemmas.Option.{none-some}
 use Rattle.outside.specs.Dock.{DockSeen}
-use Rattle.outside.specs.declared.event.RawRow.{RawRow}
 use Rattle.outside.specs.declared.fault.Fault.{Fault}
 use Rattle.outside.specs.declared.fault.Fault.TheVariants as fault
 use Rattle.outside.specs.declared.status.Status.{Status}
 use Rattle.outside.specs.declared.status.Status.TheVariants as status
-use Rattle.batch_prep.specs.Items.{Batch}
 use Rattle.batch_prep.specs.declared.item.WorkItem.{WorkItem}
 use Rattle.state_gate.specs.Views.{GateView}
-use Rattle.book_queue.specs.Content.{Held, IsBatchOf, QueueView, Sealed, batch_of, is_in_batch, move}
+use Rattle.book_queue.specs.Content.{Held, QueueView, Sealed, batch_of, is_in_batch, move}
 use Rattle.book_rules.specs.declared.answer.Put.{Put}
-use Rattle.book_rules.specs.declared.answer.Put.TheVariants as put
-use Rattle.book_rules.specs.Puts.{BreaksPut, BrokenPut, Commits, CommitsRows, GateCommits, GiveBackAnswer, OwnRows, PutAnswer, seqs_of}
+use Rattle.book_rules.specs.Puts.{GateCommits, GiveBackAnswer, seqs_of}
 use Rattle.book_rules.specs.Releases.{Point, ReleaseAnswer, stop_of}
 use Rattle.book_rules.specs.Views.{BookView}
-use Rattle.book_parts.specs.Batches.{BreaksBy, FreeAnswer, Frees, PutsOwn}
+use Rattle.book_parts.specs.Batches.{BreaksBy, FreeAnswer, Frees}
 
 abbrev without_batch : ℕ → QueueView → QueueView
 without_batch batch queue = record queue { held = filter (λ one. not (is_in_batch batch one)) queue.held }
@@ -42,15 +38,15 @@ frees_ok batch own old gate after seen emitted queue same whole knows queue_is r
       knows = knows;
       releases = releases;
       is =
-        ap (λ (one : QueueView). freed own seen after one emitted) queue_is
-        ∙ ap (λ (broken : Option Status). record own { seen = seen; gate = after; queue = without_batch batch own.queue; tally = record (own.tally) { emitted = emitted; broken = broken } }) whole;
+          ap (λ (one : QueueView). freed own seen after one emitted) queue_is
+          ∙ ap (λ (broken : Option Status). record own { seen = seen; gate = after; queue = without_batch batch own.queue; tally = record (own.tally) { emitted = emitted; broken = broken } }) whole;
     })
 
 pub frees_err : (batch : ℕ) (own old new : BookView) (gate after : GateView) (seen : DockSeen) (emitted : ℕ) (queue : QueueView) (why : Fault) (stop : Status) (result : Put) → own ≡ old → GateCommits (seqs_of (batch_of batch own.queue.held)) own.gate gate → queue ≡ without_batch batch own.queue → ReleaseAnswer {T = Unit {0}} (Err why) (from_point gate own) (to_point after seen emitted) → stop ≡ stop_of why → BreaksBy stop result (freed own seen after queue emitted) new → FreeAnswer batch result old new
 frees_err batch own old new gate after seen emitted queue why stop result same knows queue_is releases stop_is breaks =
     let new_is : new ≡ record own { seen = seen; gate = after; queue = without_batch batch own.queue; tally = record (own.tally) { emitted = emitted; broken = Some (stop_of why) } } =
-      breaks.is ∙ (ap (λ (one : QueueView). record own { seen = seen; gate = after; queue = one; tally = record (own.tally) { emitted = emitted; broken = Some stop } }) queue_is
-      ∙ ap (λ (one : Status). record own { seen = seen; gate = after; queue = without_batch batch own.queue; tally = record (own.tally) { emitted = emitted; broken = Some one } }) stop_is) in
+    breaks.is ∙ (ap (λ (one : QueueView). record own { seen = seen; gate = after; queue = one; tally = record (own.tally) { emitted = emitted; broken = Some stop } }) queue_is
+    ∙ ap (λ (one : Status). record own { seen = seen; gate = after; queue = without_batch batch own.queue; tally = record (own.tally) { emitted = emitted; broken = Some one } }) stop_is) in
     let end : BookView = record own { seen = seen; gate = after; queue = without_batch batch own.queue; tally = record (own.tally) { emitted = emitted; broken = Some (stop_of why) } } in
     let frees : Frees batch (Err why) own end = record { gate = gate; knows = knows; releases = releases; is = refl } in
     let here : Frees batch (Err why) old new = subst (λ (one : BookView). Frees batch (Err why) one new) same (subst (λ (one : BookView). Frees batch (Err why) own one) (sym new_is) frees) in

@@ -1,17 +1,16 @@
 -- States that are taken out of a gate, one after another.
-use Rattle.std.proofs.Common.{arith, ◌≡◌, ◌≢◌, ◌⊎◌, inl, inr, ℕ, suc, ◌+◌, ◌-◌, ◌<◌, ◌^◌, List, [], ◌∷◌, length, find, Bool, true, false, Option, None, Some, Ok, option_map, unwrap_or, refl, sym, ◌∙◌, ap, subst}
+use Rattle.std.proofs.Common.{arith, ◌≡◌, ◌≢◌, ◌⊎◌, inl, inr, ℕ, suc, ◌+◌, ◌<◌, List, [], ◌∷◌, length, find, Bool, true, false, Option, None, Some, Ok, option_map, unwrap_or, refl, sym, ap, subst}
 use Rattle.std.specs.List.{AllByRecursion}
 use Rattle.std.proofs.lemmas.Bool.{cases_Bool, false≢true}
 use Rattle.std.proofs.lemmas.Option.{none-some}
 use Rattle.airbyte_message.specs.declared.message.StateKind.TheVariants.{Legacy}
-use Rattle.outside.specs.declared.fault.Fault.{Fault}
 use Rattle.state_gate.specs.Content.{Content, head_in, head_of, is_clear, without_first, without_head}
 use Rattle.state_gate.specs.Views.{GateView, Stands}
 use Rattle.state_gate.specs.declared.pending.Pending.{Pending}
 use Rattle.state_gate.specs.declared.pending.Waiting.{Waiting}
 use Rattle.book_rules.specs.Holds.{HasKind}
-use Rattle.book_rules.specs.Releases.{HasNoHead, Point, Released, ReleasesAll, ReleasesSoFar, ReleasesSome, ReleasesTo, TakesHead}
-use Rattle.book_parts.specs.Steps.{FailsAt, FindsNone, MayRelease, NextAnswer}
+use Rattle.book_rules.specs.Releases.{Point, Released, ReleasesSoFar, TakesHead}
+use Rattle.book_parts.specs.Steps.{MayRelease, NextAnswer}
 
 -- what a test finds among states with echoes has one
 kind_found : (test : Waiting → Bool) (waiting : List Waiting) (found : Waiting) → AllByRecursion HasKind waiting → find test waiting ≡ Some found → HasKind found

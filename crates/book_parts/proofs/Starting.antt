@@ -1,5 +1,5 @@
 -- A load is opened, or not.
-use Rattle.std.proofs.Common.{arith, ◌≡◌, ◌⊎◌, inl, inr, ℕ, ◌+◌, ◌-◌, ◌≤◌, ◌^◌, min, List, refl, sym, ◌∙◌, ap, subst, Option, Result, Ok, Err}
+use Rattle.std.proofs.Common.{arith, ◌≡◌, ◌⊎◌, inl, inr, ℕ, ◌≤◌, List, refl, sym, ◌∙◌, ap, subst, Option, Err}
 use Rattle.std.specs.Prelude.{IsErrOf}
 use Rattle.basics.specs.Told.{Rose, RoseIf}
 use Rattle.outside.specs.Dock.{AddsOpened, DockFace, DockGrew, DockSeen, OpenAdds, OpenedAs, OpensFace, dock_events}
@@ -11,7 +11,6 @@ use Rattle.outside.specs.declared.fault.Fault.TheVariants as fault
 use Rattle.outside.specs.declared.load.Load.{Load}
 use Rattle.outside.proofs.DockLaws.{dock_grew_trans}
 use Rattle.catalog.specs.declared.stream.ConfStream.{ConfStream}
-use Rattle.load_rules.specs.Loads.{Opening}
 use Rattle.book_rules.specs.Starts.{KeepsDock, OpenedFor, RefusedFor}
 use Rattle.book_parts.specs.Opened.{OpenedView}
 use Rattle.book_parts.specs.Starting.{Opens, PlansLoad, store_stop}
@@ -57,12 +56,12 @@ refused_for fault.Failed streams old mid new plan plans adds rose = (rose_from o
 refused_for fault.NoMemory streams old mid new plan plans adds rose = adds ∙ plans.same
 
 pub refused_open : (why : Fault) (streams : List ConfStream) (old mid new : DockSeen) (plan : List StreamPlan) → PlansLoad streams old mid plan → DockGrew mid new → OpenAdds (Err why) plan mid.face.moment (dock_events mid) (dock_events new) → new.face ≡ mid.face → new.rows_read ≡ mid.rows_read → RoseIf (IsErrOf {T = Load} {E = Fault} (Err why) fault.Failed) mid.counts.store_faults new.counts.store_faults → new.counts ≡ record (mid.counts) { store_faults = new.counts.store_faults } → RefusedFor (store_stop why) streams old new × KeepsDock old new
-refused_open why streams old mid new plan plans grew adds face rows_read rose counts =
-    ( refused_for why streams old mid new plan plans adds rose
-    , record {
-        grew = dock_grew_trans old mid new plans.keeps.grew grew;
-        face = face ∙ plans.keeps.face;
-        rows_read = rows_read ∙ plans.keeps.rows_read;
-        counts = counts_on old.counts mid.counts new.counts plans.keeps.counts counts;
-      }
-    )
+refused_open why streams old mid new plan plans grew adds face rows_read rose counts = (
+  refused_for why streams old mid new plan plans adds rose,
+  record {
+    grew = dock_grew_trans old mid new plans.keeps.grew grew;
+    face = face ∙ plans.keeps.face;
+    rows_read = rows_read ∙ plans.keeps.rows_read;
+    counts = counts_on old.counts mid.counts new.counts plans.keeps.counts counts;
+  },
+)

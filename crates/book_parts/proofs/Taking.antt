@@ -1,31 +1,26 @@
 -- The steps of a call on the input.
-use Rattle.std.proofs.Common.{arith, ◌≡◌, ◌≢◌, ℕ, ◌+◌, ◌<◌, ◌^◌, List, [], ◌∷◌, ◌++◌, length, refl, sym, ◌∙◌, ap, subst, Bool, true, false, Option, None, Some, Result, Ok, Err}
+use Rattle.std.proofs.Common.{arith, ◌≡◌, ◌≢◌, ℕ, ◌+◌, List, [], ◌∷◌, ◌++◌, refl, sym, ◌∙◌, ap, subst, Option, None, Some, Ok, Err}
 use Rattle.std.specs.List.{AllByRecursion}
 use Rattle.std.proofs.lemmas.List.{length-append}
-use Rattle.airbyte_message.specs.Lanes.{Lane, one, all, lane_of}
 use Rattle.airbyte_message.specs.State.{State}
 use Rattle.airbyte_message.specs.declared.message.StateKind.TheVariants.{Legacy}
 use Rattle.outside.specs.Dock.{DockSeen}
 use Rattle.outside.specs.declared.fault.Fault.{Fault}
-use Rattle.outside.specs.declared.faults.InputKind.TheVariants as input
 use Rattle.outside.specs.declared.link.Polled.{Polled}
 use Rattle.outside.specs.declared.status.Status.{Status}
-use Rattle.catalog.specs.declared.stream.ConfStream.{ConfStream}
-use Rattle.state_gate.specs.Content.{Content, count_in, with_state}
+use Rattle.state_gate.specs.Content.{Content, count_in}
 use Rattle.state_gate.specs.Views.{GateView, Stands}
 use Rattle.state_gate.specs.declared.pending.Lane.{Lane as GateLane}
-use Rattle.state_gate.specs.declared.pending.Lane.TheVariants as gate_lane
 use Rattle.state_gate.specs.declared.pending.Waiting.{Waiting}
 use Rattle.book_rules.specs.declared.answer.Accepted.{Accepted}
 use Rattle.book_rules.specs.declared.answer.Accepted.TheVariants as accepted
 use Rattle.book_rules.specs.declared.answer.Lanes.{Lanes}
-use Rattle.book_rules.specs.declared.answer.Lanes.TheVariants as lanes
-use Rattle.book_rules.specs.Accepts.{Breaks, GateTakesState, Refuses, Takes, TakesNext, TakesState, TakesStateBy, TakesStateOf, is_other, sealed_by, with_last}
+use Rattle.book_rules.specs.Accepts.{Breaks, GateTakesState, Takes, TakesNext, with_last}
 use Rattle.book_rules.specs.Docks.{Polls}
 use Rattle.book_rules.specs.Holds.{CanRelease, HasKind}
 use Rattle.book_rules.specs.Releases.{Point, ReleaseAnswer, stop_of}
 use Rattle.book_rules.specs.Views.{BookView}
-use Rattle.book_parts.specs.Steps.{IsFoundFor, MayRelease, PutsState}
+use Rattle.book_parts.specs.Steps.{MayRelease, PutsState}
 
 -- what a poll gave is taken
 pub takes_next : (result : Accepted) (own old new : BookView) (given : Polled) (seen : DockSeen) → own ≡ old → Polls given own.seen seen → Takes given result (record own { seen = seen }) new → TakesNext result old new

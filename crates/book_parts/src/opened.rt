@@ -36,12 +36,7 @@ impl Model for Opened {
 
 impl Opened {
     /// A load of this catalog.
-    pub fn new(
-        catalog: Configured,
-        load: Load,
-        plan: LoadPlan,
-        columns: Sequence<Columns>,
-    ) -> Self
+    pub fn new(catalog: Configured, load: Load, plan: LoadPlan, columns: Sequence<Columns>) -> Self
         requires plan { PlansFit catalog plan }
         requires columns { AreColumnsOf catalog columns }
         ensures { result ≡ record { catalog = catalog; opening = record { load = load.load; moment = load.moment; plan = plan } } }

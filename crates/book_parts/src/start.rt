@@ -1,8 +1,6 @@
 // How the parts of a book come about.
-ghost use Rattle.std.specs.Prelude.{◌≡◌, ◌≤◌, [], None, false, IfErr, IfOk, length, replicate};
-ghost use Rattle.outside.specs.declared.fault.Fault.TheVariants as fault;
-ghost use Rattle.state_gate.specs.Content.{nothing_for};
-ghost use Rattle.state_gate.specs.Views.{Stands};
+ghost use Rattle.std.specs.Prelude.{◌≡◌, ◌≤◌, None, false, IfErr, IfOk, replicate};
+ghost use Rattle.catalog.specs.Configured.{AreConfigured};
 ghost use Rattle.book_rules.specs.Starts.{AreColumnsOf, RefusedBy, Starts};
 ghost use Rattle.book_parts.specs.Starting.{HasRoom, Opens, PlansLoad, store_stop};
 
@@ -30,11 +28,7 @@ fn store_status(why: Fault) -> Status
 }
 
 // The plan of a load, by the marks that the dock's store has of the catalog's streams.
-fn plan_load<D: Dock>(
-    alloc: Global,
-    dock: &mut D,
-    catalog: &Configured,
-) -> Result<LoadPlan, Status>
+fn plan_load<D: Dock>(alloc: Global, dock: &mut D, catalog: &Configured) -> Result<LoadPlan, Status>
     ensures ok { IfOk result (PlansLoad catalog.now (D.seen dock.old) (D.seen dock.new)) }
     ensures refused { IfErr result (λ why. RefusedBy why catalog.now (D.seen dock.old) (D.seen dock.new)) }
 {
@@ -93,7 +87,8 @@ fn none_shown(alloc: Global, streams: u32) -> Result<Vec<bool>, NoMemory>
 // A copy of the catalog, and room for so much.
 fn room_for(alloc: Global, configured: &Configured, limits: Limits) -> Result<Room, NoMemory>
     requires { 1 ≤ limits.batch }
-    ensures { IfOk result (HasRoom configured.now limits) }
+    ensures room { IfOk result (HasRoom configured.now limits) }
+    ensures configured { AreConfigured configured.now }
 {
     let streams = configured.len();
     Ok(Room {
@@ -129,6 +124,7 @@ pub fn new_parts<D: Dock>(
 ) -> Result<Parts<D>, (D, Status)>
     requires { 1 ≤ limits.batch }
     ensures ok { IfOk result (Starts configured.now limits (D.seen dock)) }
+    ensures configured { AreConfigured configured.now }
     ensures refused { IfErr result (λ back. RefusedBy back.1 configured.now (D.seen dock) (D.seen back.0)) }
 {
     let room = match room_for(alloc, configured, limits) {

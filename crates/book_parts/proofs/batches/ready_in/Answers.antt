@@ -1,4 +1,4 @@
-use Rattle.std.proofs.Common.{ℕ, ◌<◌, ◌≡◌, Option, None, Some, IfSome, refl, sym}
+use Rattle.std.proofs.Common.{ℕ, ◌<◌, ◌≡◌, Option, None, Some, IfSome, sym}
 use Rattle.book_queue.specs.Content.{IsQueue, QueueView, ready_of}
 use Rattle.book_parts.proofs.Committing.{ready_below}
 use Rattle.book_parts.proofs.batches.ready_in.Goals as goal

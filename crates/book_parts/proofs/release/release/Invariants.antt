@@ -1,5 +1,5 @@
 use Rattle.std.proofs.Common.{length}
-use Rattle.book_rules.specs.Releases.{Point, ReleasesSoFar}
+use Rattle.book_rules.specs.Releases.{ReleasesSoFar}
 use Rattle.book_parts.specs.Steps.{MayRelease}
 use Rattle.book_parts.proofs.release.release.Given as goal
 

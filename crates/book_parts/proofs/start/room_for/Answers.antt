@@ -1,4 +1,4 @@
-use Rattle.std.proofs.Common.{◌≡◌, ℕ, List, [], Bool, false, Option, None, replicate, sym, ◌∙◌, ap, subst}
+use Rattle.std.proofs.Common.{ℕ, List, [], Bool, false, Option, None, replicate, ◌∙◌, ap, subst}
 use Rattle.airbyte_message.specs.declared.stream_status.StreamStatus.{StreamStatus}
 use Rattle.state_gate.specs.Content.{nothing_for}
 use Rattle.state_gate.specs.Views.{GateView, Stands}
@@ -6,8 +6,8 @@ use Rattle.book_queue.specs.Content.{QueueView}
 use Rattle.book_parts.proofs.Planning.{part_whole}
 use Rattle.book_parts.proofs.start.room_for.Goals as goal
 
-pub returns : goal.returns
-returns c =
+pub returns-clause-room : goal.returns-clause-room
+returns-clause-room c =
     let many = c.len-streams.ensures.len in
     let limits = c.args.limits in
     record {

@@ -1,5 +1,4 @@
-use Rattle.std.proofs.Common.{sym, subst, ◌∙◌, ap, Option}
-use Rattle.outside.specs.declared.status.Status.{Status}
+use Rattle.std.proofs.Common.{sym, subst, ◌∙◌, ap}
 use Rattle.book_rules.specs.Holds.{CanRelease}
 use Rattle.book_rules.specs.Views.{BookView}
 use Rattle.book_parts.proofs.Taking.{gate_takes, may_release, puts_err, puts_ok}
