@@ -1,0 +1,5 @@
+pub mod Heard
+pub mod Steps
+pub mod Opened
+pub mod Batches
+pub mod Starting
