@@ -2,6 +2,10 @@
 #![tactic(auto)]
 
 #[cfg(test)]
+mod book_plays;
+#[cfg(test)]
+mod books;
+#[cfg(test)]
 mod gates;
 #[cfg(test)]
 mod pools;

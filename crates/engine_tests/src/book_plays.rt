@@ -1,0 +1,249 @@
+// Calls on a book over a dock in memory, and what they answer.
+use basics::{Bytes, FailList, NoMemory};
+use batch_prep::{Prepared, WorkItem, prepare};
+use book_rules::{Accepted, BookState, Put};
+use catalog::read_configured;
+use dest_book::Book;
+use json_write::put_number;
+use outside::{Event, Limits, SeqLineList, Status};
+use outside_mem::MemDock;
+use std::alloc::Global;
+
+/// What is done with a book.
+#[derive(Clone, Copy)]
+pub enum Act {
+    /// A line is pushed.
+    Push(&'static str),
+    /// A record of stream `a` with so many bytes is pushed.
+    PushLong(usize),
+    /// The input ends, with a piece that has no newline.
+    Close(Option<&'static str>),
+    Accept,
+    Pick,
+    /// The batch that was picked at this place, from 0, is prepared and put.
+    Put(usize),
+    /// The same, but with no line in it.
+    PutEmptied(usize),
+    /// The batch that was picked at this place is given back.
+    GiveBack(usize),
+    Recall,
+}
+
+/// The bounds of a book: slots, bytes, and records in a batch.
+pub type Bounds = (u32, u64, u32);
+
+// A line that is a record of stream `a`, with so many bytes.
+fn long_record(alloc: Global, len: usize) -> Result<Bytes, NoMemory> {
+    let front = br#"{"type":"RECORD","record":{"stream":"a","data":{"x":""#;
+    let back = br#""},"emitted_at":1}}"#;
+    let mut line = Bytes::with_capacity(alloc, len)?;
+    line.extend(front)?;
+    let fill = len.saturating_sub(front.len() + back.len());
+    line.extend(vec![in alloc; b'x'; fill]?.as_slice())?;
+    line.extend(back)?;
+    Ok(line)
+}
+
+fn put_status(
+    alloc: Global,
+    told: &mut Bytes,
+    front: &[u8],
+    status: Status,
+) -> Result<(), NoMemory> {
+    let text = status.text(alloc)?;
+    told.extend(front)?;
+    told.extend(text.as_slice())?;
+    told.push(b'\n')
+}
+
+fn put_accepted(alloc: Global, told: &mut Bytes, answer: Accepted) -> Result<(), NoMemory> {
+    match answer {
+        Accepted::Took => told.extend(b"took\n"),
+        Accepted::NotYet => told.extend(b"not yet\n"),
+        Accepted::End => told.extend(b"end\n"),
+        Accepted::Full => told.extend(b"full\n"),
+        Accepted::Broken(stop) => put_status(alloc, told, b"broken ", stop),
+    }
+}
+
+fn put_item(told: &mut Bytes, item: &WorkItem) -> Result<(), NoMemory> {
+    told.extend(b"batch")?;
+    for line in item.lines.as_slice() {
+        told.push(b' ')?;
+        put_number(told, line.seq)?;
+    }
+    told.push(b'\n')
+}
+
+fn put_put(alloc: Global, told: &mut Bytes, answer: Put) -> Result<(), NoMemory> {
+    match answer {
+        Put::Done => told.extend(b"done\n"),
+        Put::Stranger(_) => told.extend(b"stranger\n"),
+        Put::Broken(stop) => put_status(alloc, told, b"broken ", stop),
+    }
+}
+
+// The item that was picked at this place, which is held no more.
+fn take_item(items: &mut Vec<Option<WorkItem>>, place: usize) -> Option<WorkItem> {
+    match items.get_mut(place) {
+        Some(held) => held.take(),
+        None => None,
+    }
+}
+
+fn prepared(alloc: Global, item: WorkItem) -> Result<Prepared, NoMemory> {
+    match prepare(alloc, item) {
+        Ok(done) => Ok(done),
+        Err(_) => Err(NoMemory),
+    }
+}
+
+fn put_batch(
+    alloc: Global,
+    book: &mut Book<MemDock>,
+    item: WorkItem,
+    told: &mut Bytes,
+) -> Result<(), NoMemory> {
+    let done = prepared(alloc, item)?;
+    let answer = book.put(done);
+    put_put(alloc, told, answer)
+}
+
+fn act_on(
+    alloc: Global,
+    book: &mut Book<MemDock>,
+    items: &mut Vec<Option<WorkItem>>,
+    act: Act,
+    told: &mut Bytes,
+) -> Result<(), NoMemory> {
+    match act {
+        Act::Push(line) => book.push_input(Bytes::copy_of(alloc, line.as_bytes())?),
+        Act::PushLong(len) => book.push_input(long_record(alloc, len)?),
+        Act::Close(None) => {
+            book.close_input(None);
+            Ok(())
+        }
+        Act::Close(Some(torn)) => {
+            book.close_input(Some(Bytes::copy_of(alloc, torn.as_bytes())?));
+            Ok(())
+        }
+        Act::Accept => {
+            let answer = book.accept();
+            put_accepted(alloc, told, answer)
+        }
+        Act::Pick => match book.pick()? {
+            Some(item) => {
+                put_item(told, &item)?;
+                items.push(Some(item))?;
+                Ok(())
+            }
+            None => told.extend(b"none\n"),
+        },
+        Act::Put(place) => match take_item(items, place) {
+            Some(item) => put_batch(alloc, book, item, told),
+            None => told.extend(b"?\n"),
+        },
+        Act::PutEmptied(place) => match take_item(items, place) {
+            Some(mut item) => {
+                item.lines = SeqLineList::new(alloc);
+                put_batch(alloc, book, item, told)
+            }
+            None => told.extend(b"?\n"),
+        },
+        Act::GiveBack(place) => match take_item(items, place) {
+            Some(item) => match book.give_back(item) {
+                None => told.extend(b"sealed\n"),
+                Some(_) => told.extend(b"back\n"),
+            },
+            None => told.extend(b"?\n"),
+        },
+        Act::Recall => {
+            book.recall();
+            Ok(())
+        }
+    }
+}
+
+fn put_emitted(book: &mut Book<MemDock>, told: &mut Bytes) -> Result<(), NoMemory> {
+    for _ in 0..1_000 {
+        let Some(line) = book.take_output() else {
+            return Ok(());
+        };
+        told.extend(b"> ")?;
+        told.extend(line.as_slice())?;
+        told.push(b'\n')?;
+    }
+    Ok(())
+}
+
+// The rows that were committed, by load and sequence, one commit behind another.
+fn put_rows(dock: &MemDock, told: &mut Bytes) -> Result<(), NoMemory> {
+    told.extend(b"rows")?;
+    for event in dock.events().as_slice() {
+        if let Event::Committed { rows, .. } = event {
+            for row in rows.as_slice() {
+                told.push(b' ')?;
+                put_number(told, row.load)?;
+                told.push(b':')?;
+                put_number(told, row.seq)?;
+            }
+        }
+    }
+    Ok(())
+}
+
+fn put_state(alloc: Global, told: &mut Bytes, state: BookState) -> Result<(), NoMemory> {
+    match state {
+        BookState::Running => told.extend(b"running\n"),
+        BookState::Ended => told.extend(b"ended\n"),
+        BookState::Broken(stop) => put_status(alloc, told, b"stays broken ", stop),
+    }
+}
+
+/// What a book over a new dock, whose calls with these numbers fail, answers to each act, with the lines that it emits, how it
+/// stands in the end, and the rows that were committed.
+pub fn play(
+    alloc: Global,
+    catalog: &str,
+    bounds: Bounds,
+    fails: &[u64],
+    acts: &[Act],
+) -> Result<Bytes, NoMemory> {
+    let mut told = Bytes::new(alloc);
+    let Ok(configured) = read_configured(alloc, catalog.as_bytes()) else {
+        return Ok(told);
+    };
+    let (slots, bytes, batch) = bounds;
+    let limits = Limits {
+        slots,
+        bytes,
+        batch,
+        workers: 1,
+        page: 10,
+    };
+    if !limits.are_limits() {
+        return Ok(told);
+    }
+    let mut failing = FailList::new(alloc);
+    for number in fails {
+        failing.push(*number)?;
+    }
+    let dock = MemDock::new(alloc, 0, failing)?;
+    match Book::start(alloc, dock, &configured, limits) {
+        Ok(mut book) => {
+            let mut items = Vec::new(alloc);
+            for act in acts {
+                act_on(alloc, &mut book, &mut items, *act, &mut told)?;
+                put_emitted(&mut book, &mut told)?;
+            }
+            put_state(alloc, &mut told, book.state())?;
+            let dock = book.into_dock();
+            put_rows(&dock, &mut told)?;
+        }
+        Err((dock, status)) => {
+            put_status(alloc, &mut told, b"refused ", status)?;
+            put_rows(&dock, &mut told)?;
+        }
+    }
+    Ok(told)
+}
