@@ -1,10 +1,10 @@
 -- A batch that is committed, and what a put is to the machine.
-use Rattle.std.proofs.Common.{arith, ◌≡◌, ◌⊎◌, inl, inr, ℕ, ◌+◌, ◌≤◌, eqb, List, [], ◌∷◌, ◌++◌, map, length, Option, None, Some, Bool, true, false, cond, Result, Ok, Err, refl, sym, ◌∙◌, ap, subst, length-append}
-use Rattle.std.specs.Prelude.{filter, filter_map, not, ◌&&◌, IfSome, option_map, option_to_list, slice_get}
+use Rattle.std.proofs.Common.{arith, ◌≡◌, ◌⊎◌, inl, inr, ℕ, ◌+◌, ◌≤◌, List, [], ◌∷◌, ◌++◌, map, length, Option, None, Some, Bool, true, false, cond, Result, Ok, Err, refl, sym, ◌∙◌, ap, subst, length-append}
+use Rattle.std.specs.Prelude.{filter, filter_map, not, option_map, option_to_list, slice_get}
 use Rattle.std.specs.List.{AllByRecursion, list_any}
 use Rattle.std.proofs.lemmas.List.{append-nil}
 use Rattle.std.proofs.lemmas.List.Elements.{filter-append, filter_map-append}
-use Rattle.std.proofs.lemmas.Bool.{cases_Bool, eq-eqb, false≢true}
+use Rattle.std.proofs.lemmas.Bool.{false≢true}
 use Rattle.std.proofs.lemmas.Option.{slice_get-map}
 use Rattle.basics.specs.Told.{told_more}
 use Rattle.basics.specs.declared.stream.StreamId.{StreamId}
@@ -30,7 +30,7 @@ use Rattle.state_gate.specs.Views.{GateView}
 use Rattle.load_rules.specs.Acts.{Act, Commits, taken, state_echoed}
 use Rattle.load_rules.specs.Engine.{PlansFit}
 use Rattle.load_rules.specs.Finished.{last_status}
-use Rattle.load_rules.specs.Machine.{Machine, Placed, Step, Commit, Done, run, happens, commits, commits_batch, commits_at, have_sequences, in_batch, is_done, is_in_batch, is_of, is_out, move}
+use Rattle.load_rules.specs.Machine.{Machine, Placed, Step, Commit, Done, run, happens, commits, commits_batch, commits_at, have_sequences, in_batch, is_in_batch, move}
 use Rattle.load_rules.specs.SafeDest.{AreRowsOf}
 use Rattle.load_rules.specs.Taken.{Entry, entries, is_in, since}
 use Rattle.load_rules.proofs.Machines.{commit_taken, length-move, numbered_placed, picked, picked_is, seqs}
@@ -48,7 +48,7 @@ use Rattle.book_rules.proofs.Lists.{filter_as, filter_map_list, length_filter}
 use Rattle.book_rules.proofs.Moves.{done_held, held_in_batch, held_length}
 use Rattle.book_rules.proofs.Putting.{IsOwnPlan, all_filter, all_held, all_own, filter_held, have_is, held_seqs, nil_map, none_passes, plans_alike, rows_of}
 use Rattle.book_rules.proofs.Releasing.{at_point, counts_of_none, few_held, releases_all_lead, releases_some_lead}
-use Rattle.book_rules.proofs.Sealing.{and_none, batch_done, done_not_out, of_batch, of_one, parked_apart}
+use Rattle.book_rules.proofs.Sealing.{batch_done, of_batch, of_one, parked_apart}
 use Rattle.book_rules.proofs.Whole.{IsWhole, book_of_whole, broken_of, whole_counts, whole_good, whole_of}
 
 -- the book with a batch committed, before its releases

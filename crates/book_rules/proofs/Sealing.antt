@@ -359,17 +359,22 @@ give_back_leads book m batch distinct some w =
     let placed = move (is_in_batch id batch) Sealed m.placed in
     let moves : MovesTo IsTakingBack book.catalog m placed = record { steps = TakeBack id batch ∷ []; all = (tt, tt); is = refl } in
     let moved = move_front u queue.Sealed book.queue.held (option_to_list book.queue.parked) (parked_apart batch stream book.queue.parked w.holds.parked) ∙ ap (λ list. list ++ option_to_list book.queue.parked) (held_move_as u (queue.is_in_batch batch) queue.Sealed book.queue.held (of_one batch stream book.queue.held same.all)) in
-    record { steps = TakeBack id batch ∷ []; once = refl; all = (tt, tt); leads = whole_requeued IsTakingBack book m (record (book.queue) { held = queue.move (queue.is_in_batch batch) queue.Sealed book.queue.held }) placed w moves (record {
-      long = length-move (is_in_batch id batch) Sealed m.placed;
-      accepted = ap (map accepted_of) (sym moved) ∙ accepted_move u queue.Sealed (all_of book.queue);
-      held = subst (AreHeld (ids book) (still placed)) moved (move_held (ids book) (is_in_batch id batch) u queue.Sealed (batch_done id batch) (λ one held is. held_in_batch (ids book) batch stream id one held distinct named.named is) m.placed (all_of book.queue) w.holds.held);
-      streams = refl;
-      next = refl;
-      room = let long = length_move (queue.is_in_batch batch) queue.Sealed book.queue.held in let few = w.holds.room in omega (arith, long, few);
-      slots = refl;
-      bytes = refl;
-      batch = refl;
-      fresh = all_move (λ one. number_below book.queue.next_batch one.place ≡ true) (queue.is_in_batch batch) queue.Sealed book.queue.held (put_fresh book.queue.next_batch) w.holds.fresh;
-      parked = w.holds.parked;
-      alike = λ n. alike_move n (queue.is_in_batch batch) book.queue.held (w.holds.alike n);
-    }) }
+    record {
+      steps = TakeBack id batch ∷ [];
+      once = refl;
+      all = (tt, tt);
+      leads = whole_requeued IsTakingBack book m (record (book.queue) { held = queue.move (queue.is_in_batch batch) queue.Sealed book.queue.held }) placed w moves (record {
+        long = length-move (is_in_batch id batch) Sealed m.placed;
+        accepted = ap (map accepted_of) (sym moved) ∙ accepted_move u queue.Sealed (all_of book.queue);
+        held = subst (AreHeld (ids book) (still placed)) moved (move_held (ids book) (is_in_batch id batch) u queue.Sealed (batch_done id batch) (λ one held is. held_in_batch (ids book) batch stream id one held distinct named.named is) m.placed (all_of book.queue) w.holds.held);
+        streams = refl;
+        next = refl;
+        room = let long = length_move (queue.is_in_batch batch) queue.Sealed book.queue.held in let few = w.holds.room in omega (arith, long, few);
+        slots = refl;
+        bytes = refl;
+        batch = refl;
+        fresh = all_move (λ one. number_below book.queue.next_batch one.place ≡ true) (queue.is_in_batch batch) queue.Sealed book.queue.held (put_fresh book.queue.next_batch) w.holds.fresh;
+        parked = w.holds.parked;
+        alike = λ n. alike_move n (queue.is_in_batch batch) book.queue.held (w.holds.alike n);
+      });
+    }
