@@ -1,5 +1,5 @@
 -- What a run does to a desk, put together from the reading of texts and the saying of lines.
-use Rattle.std.proofs.Common.{◌≡◌, ◌≢◌, ◌⊎◌, ◌∙◌, inl, inr, ℕ, ◌≤◌, List, [], ◌∷◌, All, Bool, true, false, Option, None, Some, Result, Ok, Err, IfOk, codes, refl, sym, ap, subst, arith}
+use Rattle.std.proofs.Common.{◌≡◌, ◌≢◌, ◌⊎◌, ◌∙◌, inl, inr, ℕ, ◌≤◌, List, [], ◌∷◌, All, true, false, Option, None, Some, Result, Ok, Err, IfOk, codes, refl, sym, ap, subst, arith}
 use Rattle.basics.specs.Told.{Rose, RoseIf, told_more}
 use Rattle.basics.specs.declared.memory.NoMemory.{NoMemory}
 use Rattle.json_fields.specs.Answer.{IsOnly}

@@ -1,4 +1,4 @@
-use Rattle.std.proofs.Common.{◌≡◌, List, ℕ, subst}
+use Rattle.std.proofs.Common.{List, ℕ, subst}
 use Rattle.file_run.specs.Runs.{MayCheck, MaySayOne, RunsAs}
 use Rattle.file_run.proofs.RunLemmas.{checked_said, memory_wanted}
 use Rattle.file_run.proofs.run.run_check.Goals as goal
