@@ -1,1 +1,4 @@
 pub mod Ways
+pub mod Lists
+pub mod ReadLemmas
+pub mod EndLemmas

@@ -31,6 +31,7 @@ use Rattle.sync_rules.specs.Steps.{Step}
 use Rattle.sync_rules.specs.Sync.{Running, Sync, Takes, completion, texts, to_give}
 use Rattle.sync_ledger.specs.Told.{told_of}
 use Rattle.sync_ledger.specs.declared.form.StateForm.TheVariants as form
+use Rattle.sync_ledger.specs.declared.notes.TheConstants.{MOST_LINES}
 use Rattle.sync_ledger.specs.declared.said.Saying.{Saying}
 use Rattle.sync_ledger.specs.declared.said.Saying.TheVariants as saying
 use Rattle.sync_ledger.specs.declared.told.Told.{Told}
@@ -112,6 +113,7 @@ pub record IsOn (w : Worker) (streams : List ConfStream) (read : Reading) (own :
   pub closed_behind : w.closed ≡ true → ClosedBehind own.events
   pub read_so : read_over own.events ≡ w.read_over
   pub got_so : got_over own.events ≡ w.got_over
+  pub few_lines : length (reads own.events) ≤ MOST_LINES
   pub got_lines : w.got_lines ≡ length (gots own.events)
   pub gives_next : to_give (ids_of streams) read own.events ≡ (gives own.events ++ option_to_list w.held) ++ left_to_give w (ids_of streams) read own.events
   -- completions are made behind the end of the output; before the first of them all that was given was read

@@ -147,13 +147,13 @@ judges ids start read events line noted text saved ledger =
 
 -- ---- what is given
 
-err_ok : {A E : Type 0} {e : E} {a : A} → Err e ≡ Ok a → ⊥
+pub err_ok : {A E : Type 0} {e : E} {a : A} → Err e ≡ Ok a → ⊥
 err_ok h = cc
 
 abbrev pub ok_verdict : Verdict → Result Verdict Breach
 ok_verdict answer = Ok answer
 
-ok_is : {a b : Verdict} → ok_verdict a ≡ ok_verdict b → a ≡ b
+pub ok_is : {a b : Verdict} → ok_verdict a ≡ ok_verdict b → a ≡ b
 ok_is h = cc
 
 pub short_told : (noted : Noted) (text : List ℕ) (told_is : Result Verdict Breach) (answer : Verdict) → cond (nat_lt LONGEST_LINE (length text)) (Err breach.TooLong) told_is ≡ Ok answer → told_is ≡ Ok answer
