@@ -1,5 +1,5 @@
 -- An attempt ends where its worker stands, or behind a line that was read.
-use Rattle.std.proofs.Common.{arith, ◌≡◌, ◌⊎◌, inl, inr, ℕ, ◌+◌, ◌<◌, ◌≤◌, List, [], ◌∷◌, ◌++◌, Bool, true, false, cond, ◌||◌, Option, None, Some, Result, Ok, Err, refl, sym, ◌∙◌, ap, subst, append_assoc, append-nil, length, length-append, nat_lt, lt-ltb}
+use Rattle.std.proofs.Common.{arith, ◌≡◌, ◌⊎◌, inl, inr, ℕ, ◌+◌, ◌-◌, min, ◌<◌, ◌≤◌, List, [], ◌∷◌, ◌++◌, Bool, true, false, cond, ◌||◌, Option, None, Some, Result, Ok, Err, refl, sym, ◌∙◌, ap, subst, append_assoc, append-nil, length, length-append, nat_lt, lt-ltb}
 use Rattle.std.specs.Prelude.{option_map, ◌^◌}
 use Rattle.std.proofs.lemmas.List.{length-map}
 use Rattle.std.specs.List.{list_any}
@@ -15,6 +15,7 @@ use Rattle.outside.specs.declared.event.Exit.TheVariants.{Code}
 use Rattle.outside.specs.declared.faults.Breach.{Breach}
 use Rattle.outside.specs.declared.faults.Breach.TheVariants as breach
 use Rattle.outside.specs.declared.link.LinkFace.{LinkFace}
+use Rattle.outside.specs.declared.link.PollKind.TheVariants as kind
 use Rattle.outside.specs.declared.status.Status.{Status}
 use Rattle.outside.specs.declared.status.Status.TheVariants as status
 use Rattle.attempt_loop.specs.Attempts.{is_retried}
@@ -53,7 +54,7 @@ use Rattle.attempt_turns.specs.Acts.{Act, does, Place, is_refused, lines_of, lin
 use Rattle.attempt_turns.specs.History.{Leads, KeepsDesk, Ran}
 use Rattle.attempt_turns.specs.Ends.{CanStop, Ends, EndsSo, ErrsSo, IsClean, RefusesLast, SaidSo}
 use Rattle.attempt_turns.specs.Heard.{HalfSaid, HearsSource, LineEnds, SaysLines, lines_answered}
-use Rattle.attempt_turns.specs.Worker.{ComesBack, IsLast, IsOn, Stands, is_error, is_error_saying, is_error_told, source_held}
+use Rattle.attempt_turns.specs.Worker.{ComesBack, IsLast, IsOn, IsReadable, Stands, is_error, is_error_saying, is_error_told, source_held}
 use Rattle.attempt_turns.specs.declared.worker.Worker.{Worker}
 use Rattle.attempt_turns.proofs.Lists.{any_one, each_one, reads_one, same_gots}
 use Rattle.attempt_turns.proofs.ReadLemmas.{account_give, answer_only, few_lines, front_read, going_read, judged_by, lines_are, not_completing, not_refused, read_place, short, state_give, told_is}
@@ -105,7 +106,7 @@ no_events seen new same = same ∙ none (own_events seen)
     none None = refl
     none (Some list) = ap (λ it. Some it) (sym (append-nil list))
 
-none_said : (desk : DeskSeen) → desk.said ≡ told_more [] desk.said
+pub none_said : (desk : DeskSeen) → desk.said ≡ told_more [] desk.said
 none_said desk = none desk.said
   where
     none : {A : Type 0} (before : Option (List A)) → before ≡ told_more [] before
@@ -199,8 +200,8 @@ heard_lines w now call streams read here said text answer few right heard_is sta
     ∙ lines_are w.ledger (told_of side.Source text (read text)) answer told)
 
 -- the line was heard, and a part of what is to be said of it was said
-half_said_way : (w now : Worker) (text : List ℕ) (old new : Seen) (desk_old desk_new : DeskSeen) → w.ledger.lines < MOST_LINES → HalfSaid w text now desk_old desk_new → ReadsWay status.SayFault w now text old new desk_old desk_new
-half_said_way w now text old new desk_old desk_new few half going added grew = record {
+half_said_way : (w now : Worker) (text : List ℕ) (old new : Seen) (desk_old desk_new : DeskSeen) → HalfSaid w text now desk_old desk_new → ReadsWay status.SayFault w now text old new desk_old desk_new
+half_said_way w now text old new desk_old desk_new half going added grew = record {
   acts = does (ReadLine text) ∷ [];
   lines = half.said.front.front;
   added = added;
@@ -211,7 +212,7 @@ half_said_way w now text old new desk_old desk_new few half going added grew = r
       read_place read here text,
       going_read w call streams read here said text going stands,
       read_ends status.SayFault new.face w now call streams read here said half.said.front.front text stands going refl (ap (λ (it : Worker). it.number) half.heard.is) tt
-      (half.said.front.rest, heard_lines w now call streams read here said text half.answer few reading.0 half.heard stands ∙ (ap (λ list. said ++ list) half.said.front.splits ∙ sym (append_assoc said half.said.front.front half.said.front.rest))),
+      (half.said.front.rest, heard_lines w now call streams read here said text half.answer half.heard.few reading.0 half.heard stands ∙ (ap (λ list. said ++ list) half.said.front.splits ∙ sym (append_assoc said half.said.front.front half.said.front.rest))),
     );
 }
 
@@ -243,9 +244,9 @@ error_is noted (told.State state) words is = absurd (give_error (state_give note
 error_is noted (told.Status id status) words is = absurd (status_error (account_of noted.ids id noted.accounts.streams) (ok_is is))
 error_is noted (told.Other own) words is = saying_is own (ok_is is)
 
-error_way : (w now : Worker) (text words : List ℕ) (line : ℕ) (old new : Seen) (desk_old desk_new : DeskSeen) → w.held ≡ None → w.read_over ≡ false → w.ledger.lines < MOST_LINES → HearsSource w text (verdict.ConfigError words) now → line ≡ now.ledger.lines → SaysLines (words ∷ []) desk_old desk_new
+error_way : (w now : Worker) (text words : List ℕ) (line : ℕ) (old new : Seen) (desk_old desk_new : DeskSeen) → w.held ≡ None → w.read_over ≡ false → HearsSource w text (verdict.ConfigError words) now → line ≡ now.ledger.lines → SaysLines (words ∷ []) desk_old desk_new
     → ReadsWay (status.ConfigError side.Source line) w now text old new desk_old desk_new
-error_way w now text words line old new desk_old desk_new empty reading_on few heard_is number says going added grew = record {
+error_way w now text words line old new desk_old desk_new empty reading_on heard_is number says going added grew = record {
   acts = does (ReadLine text) ∷ [];
   lines = words ∷ [];
   added = added;
@@ -257,7 +258,7 @@ error_way w now text words line old new desk_old desk_new empty reading_on few h
       going_read w call streams read here said text going stands,
       read_ends (status.ConfigError side.Source line) new.face w now call streams read here said (words ∷ []) text stands going refl (ap (λ (it : Worker). it.number) heard_is.is)
       (errs streams read stands.attempt reading.0 stands.on)
-      (heard_lines w now call streams read here said text (verdict.ConfigError words) few reading.0 heard_is stands),
+      (heard_lines w now call streams read here said text (verdict.ConfigError words) heard_is.few reading.0 heard_is stands),
     );
 }
   where
@@ -372,3 +373,34 @@ breach_way w now text why line old new desk_old desk_new reading_on refuses numb
       come_back = each_one (ComesBack read) [] own.events (ReadLine text) on.none_ends.come_back tt;
       number = number ∙ (ap (λ n. n + 1) (sym (few_lines (ids_of streams) w streams read own on)) ∙ (sym (length-append (reads own.events) (text ∷ [])) ∙ ap length (sym (reads_one own.events (ReadLine text)))));
     }
+
+-- ---- all of them
+
+pub line_ends_way : (end : Status) (w now : Worker) (text : List ℕ) (old new : Seen) (desk_old desk_new : DeskSeen) → IsReadable w → own_events new ≡ told_more (ReadLine text ∷ []) (own_events old) → Grew old new → LineEnds end w text now desk_old desk_new
+    → Ran (Stands w) (Ends end new.face now) old new desk_old desk_new
+line_ends_way (status.SourceBreach why line) w now text old new desk_old desk_new readable added grew is = breach_way w now text why line old new desk_old desk_new readable.going is.0 is.1 is.2 is.3 readable.going added grew
+line_ends_way status.TooManyLines w now text old new desk_old desk_new readable added grew is = too_many_way w now text old new desk_old desk_new is.0 is.1 is.2 readable.going added grew
+line_ends_way (status.ConfigError side.Source line) w now text old new desk_old desk_new readable added grew (words, heard_is, number, says) = error_way w now text words line old new desk_old desk_new readable.empty readable.going heard_is number says readable.going added grew
+line_ends_way status.SayFault w now text old new desk_old desk_new readable added grew is = half_said_way w now text old new desk_old desk_new is readable.going added grew
+line_ends_way status.NoMemory w now text old new desk_old desk_new readable added grew is = no_memory_way w now text old new desk_old desk_new is.0 is.1 readable.going added grew
+line_ends_way end w now text old new desk_old desk_new readable added grew is = absurd is
+
+-- ---- polls that bring no line
+
+-- a line was too long
+pub too_long_way : (line : ℕ) (w : Worker) (old new : Seen) (desk : DeskSeen) → w.read_over ≡ false → line ≡ min (w.ledger.lines + 1) (2 ^ 64 - 1) → own_events new ≡ own_events old → Grew old new → new.face.source_poll ≡ kind.TooLong
+    → Ran (Stands w) (Ends (status.SourceBreach breach.TooLong line) new.face w) old new desk desk
+too_long_way line w old new desk going number same grew long = ends_way (status.SourceBreach breach.TooLong line) w old new desk going same grew
+    (λ streams read own on. inr (refl, (long, at streams read own on), clean w streams read own on))
+  where
+    at : (streams : List ConfStream) (read : Reading) (own : Running) → IsOn w streams read own → line ≡ length (reads own.events) + 1
+    at streams read own on =
+        let lines = few_lines (ids_of streams) w streams read own on in
+        let few = on.few_lines in
+        omega (arith, number, lines, few)
+
+pub failed_way : (w : Worker) (old new : Seen) (desk : DeskSeen) → w.read_over ≡ false → own_events new ≡ own_events old → Grew old new → Ran (Stands w) (Ends status.LinkFault new.face w) old new desk desk
+failed_way w old new desk going same grew = ends_way status.LinkFault w old new desk going same grew (λ streams read own on. clean w streams read own on)
+
+pub lacked_way : (w : Worker) (old new : Seen) (desk : DeskSeen) → w.read_over ≡ false → own_events new ≡ own_events old → Grew old new → Ran (Stands w) (Ends status.NoMemory new.face w) old new desk desk
+lacked_way w old new desk going same grew = ends_way status.NoMemory w old new desk going same grew (λ streams read own on. tt)

@@ -2,3 +2,4 @@ pub mod Ways
 pub mod Lists
 pub mod ReadLemmas
 pub mod EndLemmas
+pub mod EndOfOutput

@@ -54,7 +54,7 @@ use Rattle.ledger_rules.proofs.Stands.{reads_on}
 use Rattle.attempt_turns.specs.Acts.{Act, Going, does, Place, is_refused, lines_of, lines_told, lines_saying, place_after, reads_in}
 use Rattle.attempt_turns.specs.History.{Leads, Ran}
 use Rattle.attempt_turns.specs.Heard.{GoesOn, HeardSource, HearsSource, lines_answered}
-use Rattle.attempt_turns.specs.Worker.{ComesBack, IsOn, IsLast, NoneEnds, SetFits, Stands, is_error, is_error_told, is_error_saying, left_to_give, source_held, untold_from}
+use Rattle.attempt_turns.specs.Worker.{ComesBack, IsOn, IsLast, IsReadable, NoneEnds, SetFits, Stands, is_error, is_error_told, is_error_saying, left_to_give, source_held, untold_from}
 use Rattle.attempt_turns.specs.declared.worker.Worker.{Worker}
 use Rattle.attempt_turns.proofs.Lists.{any_one, each_one, got_over_one, passed_one, read_over_one, reads_one, same_gives, same_gots}
 
@@ -183,10 +183,10 @@ passed_list : (b : Bool) (line : Line) → texts (cond b (line ∷ []) []) ≡ c
 passed_list true line = refl
 passed_list false line = refl
 
-none_left : (w : Worker) (ids : List StreamId) (read : Reading) (events : List Event) → w.read_over ≡ false → left_to_give w ids read events ≡ []
+pub none_left : (w : Worker) (ids : List StreamId) (read : Reading) (events : List Event) → w.read_over ≡ false → left_to_give w ids read events ≡ []
 none_left w ids read events none = ap (λ b. cond b (map completion (untold_from w.completed ids read events)) []) none
 
-no_completions : (ids : List StreamId) (read : Reading) (events : List Event) → read_over events ≡ false → to_give ids read events ≡ texts (passed ids read events)
+pub no_completions : (ids : List StreamId) (read : Reading) (events : List Event) → read_over events ≡ false → to_give ids read events ≡ texts (passed ids read events)
 no_completions ids read events going = ap (λ b. texts (passed ids read events) ++ cond b (map completion (untold ids read events)) []) going ∙ append-nil (texts (passed ids read events))
 
 pub not_completing : (w : Worker) (held : Option (List ℕ)) → w.is_completing ≡ false → cond w.is_completing None held ≡ held
@@ -274,14 +274,8 @@ on_read w streams read own text answer ledger empty going opened few goes by on 
 
 -- ---- the way
 
-runs_on : (own : Option Running) (attempt : Running) → own ≡ Some attempt → list_any is_ended attempt.events ≡ false → read_over attempt.events ≡ false → InAttempt own ReadsOn
+pub runs_on : (own : Option Running) (attempt : Running) → own ≡ Some attempt → list_any is_ended attempt.events ≡ false → read_over attempt.events ≡ false → InAttempt own ReadsOn
 runs_on own attempt runs going over = subst (λ it. InAttempt it ReadsOn) (sym runs) (going, over)
-
-pub record IsReadable (w : Worker) : Type 0 where
-  pub empty : w.held ≡ None
-  pub going : w.read_over ≡ false
-  pub opened : w.closed ≡ false
-  pub few : w.ledger.lines < MOST_LINES
 
 abbrev pub read_place : Reading → Place → List ℕ → Place
 read_place read here text = place_after read here (ReadLine text) (with_event (ReadLine text) here.standing.sync)
@@ -317,14 +311,14 @@ reads_way w now text old new desk_old desk_new readable added grew heard_is = re
         let by = judged_by w read text heard_is.answer now.ledger reading.0 heard_is.heard.hears in
         let next = with_event (ReadLine text) here.standing.sync in
         let told = told_is w read text heard_is.answer now.ledger by in
-        let unrefused : is_refused here.standing text ≡ false = not_refused w call streams read here said text readable.few stands (short w.ledger text (judged_told w.ledger (told_of side.Source text (read text))) heard_is.answer by.judged_is) in (
+        let unrefused : is_refused here.standing text ≡ false = not_refused w call streams read here said text heard_is.heard.few stands (short w.ledger text (judged_told w.ledger (told_of side.Source text (read text))) heard_is.answer by.judged_is) in (
           place_after read here (ReadLine text) next,
           going_read w call streams read here said text readable.going stands,
           subst (λ (it : Worker). Stands it call streams read (place_after read here (ReadLine text) next) (said ++ lines_answered heard_is.answer)) (sym heard_is.heard.is) (record {
             is_last = record { begun = stands.is_last.begun; number = stands.is_last.number; positive = stands.is_last.positive; ended = stands.is_last.ended; works = stands.is_last.works };
             attempt = and_event (ReadLine text) stands.attempt;
             runs = ap (option_map (and_event (ReadLine text))) stands.runs;
-            on = on_read w streams read stands.attempt text heard_is.answer now.ledger readable.empty readable.going readable.opened readable.few heard_is.goes_on by stands.on;
+            on = on_read w streams read stands.attempt text heard_is.answer now.ledger readable.empty readable.going readable.opened heard_is.heard.few heard_is.goes_on by stands.on;
             set = stands.set;
             none_owed = stands.none_owed;
             said_all = ap (λ list. list ++ lines_of read here.standing (ReadLine text)) stands.said_all

@@ -175,7 +175,7 @@ HasToSay line Then call streams read here said = (here.asked ≡ said ++ line �
 -- What holds of the link between two lines: it runs, its input is open until the worker closes it, its told trace has ended as the worker
 -- knows, no line was too long at the last poll; a completion is made only where the source is known to have ended with code 0, and the
 -- input is closed then only behind the last.
-pub record Live (w : Worker) (streams : ℕ) (seen : Seen) : Type 0 where
+pub record Live (w : Worker) (seen : Seen) : Type 0 where
   pub running : IsTrue seen.face.running
   pub input_open : w.closed ≡ false → IsTrue seen.face.input_open
   pub read_told : IfSome (own_events seen) (λ events. read_over events ≡ w.read_over)
@@ -183,4 +183,10 @@ pub record Live (w : Worker) (streams : ℕ) (seen : Seen) : Type 0 where
   pub source_short : ¬ (seen.face.source_poll ≡ kind.TooLong)
   pub dest_short : ¬ (seen.face.dest_poll ≡ kind.TooLong)
   pub completed : (w.is_completing ≡ true) ⊎ (0 < w.completed) → seen.face.codes.source ≡ Some (Code 0)
-  pub all_completed : w.closed ≡ true → seen.face.codes.source ≡ Some (Code 0) → (w.held ≡ None) × (streams ≤ w.completed)
+  pub all_completed : w.closed ≡ true → seen.face.codes.source ≡ Some (Code 0) → (w.held ≡ None) × (length w.ledger.ids ≤ w.completed)
+
+-- the source may be polled: no line is held, and neither its output has ended nor the destination's input
+pub record IsReadable (w : Worker) : Type 0 where
+  pub empty : w.held ≡ None
+  pub going : w.read_over ≡ false
+  pub opened : w.closed ≡ false

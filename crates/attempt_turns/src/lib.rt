@@ -8,4 +8,5 @@ mod worker;
 
 pub use laws::ways_go_on;
 pub use say::say_line;
+pub use source::read_source;
 pub use worker::{Moved, Worker};
