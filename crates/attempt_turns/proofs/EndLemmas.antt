@@ -1,6 +1,6 @@
 -- An attempt ends where its worker stands, or behind a line that was read.
 use Rattle.std.proofs.Common.{arith, ◌≡◌, ◌⊎◌, inl, inr, ℕ, ◌+◌, ◌-◌, min, ◌<◌, ◌≤◌, List, [], ◌∷◌, ◌++◌, Bool, true, false, cond, ◌||◌, Option, None, Some, Result, Ok, Err, refl, sym, ◌∙◌, ap, subst, append_assoc, append-nil, length, length-append, nat_lt, lt-ltb}
-use Rattle.std.specs.Prelude.{option_map, ◌^◌}
+use Rattle.std.specs.Prelude.{option_map, option_to_list, ◌^◌}
 use Rattle.std.proofs.lemmas.List.{length-map}
 use Rattle.std.specs.List.{list_any}
 use Rattle.std.proofs.lemmas.Bool.{false≢true}
@@ -77,11 +77,14 @@ clean w streams read own on = record { unbroken = on.ledger.unbroken; none_ends 
 less_same : (m n : ℕ) → m ≡ n → m < n → ⊥
 less_same m n same less = omega (arith, same, less)
 
+pub given_front : (w : Worker) (streams : List ConfStream) (read : Reading) (own : Running) → IsOn w streams read own → w.is_completing ≡ false → w.completed ≡ 0 → IsPrefix (gives own.events) (texts (passed (ids_of streams) read own.events))
+given_front w streams read own on none zero = (option_to_list w.held, on.own_lines none zero)
+
 -- while lines are read no completion was made
 pub may_stop : (w : Worker) (call : Call) (streams : List ConfStream) (read : Reading) (face : LinkFace) (here : Place) (said : List (List ℕ)) → w.read_over ≡ false → Stands w call streams read here said → CanStop streams read face here
 may_stop w call streams read face here said going stands =
     let none = stands.on.reads_first going in
-    record { attempt = stands.attempt; runs = stands.runs; going = stands.on.going; rightly = inl (stands.on.own_lines none.0 none.1) }
+    record { attempt = stands.attempt; runs = stands.runs; going = stands.on.going; rightly = inl (given_front w streams read stands.attempt stands.on none.0 none.1) }
 
 -- the attempt ends where it stands
 pub ends_here : (end : Status) (face : LinkFace) (w : Worker) (call : Call) (streams : List ConfStream) (read : Reading) (here : Place) (said : List (List ℕ)) (stands : Stands w call streams read here said)
@@ -164,7 +167,7 @@ read_ends end face w now call streams read here said lines text stands going kep
       attempt = and_event (ReadLine text) stands.attempt;
       runs = ap (option_map (and_event (ReadLine text))) stands.runs;
       going = any_one is_ended stands.attempt.events (ReadLine text) refl ∙ stands.on.going;
-      rightly = (let none = stands.on.reads_first going in inl (front_read (ids_of streams) read stands.attempt text (stands.on.own_lines none.0 none.1)));
+      rightly = (let none = stands.on.reads_first going in inl (front_read (ids_of streams) read stands.attempt text (given_front w streams read stands.attempt stands.on none.0 none.1)));
     };
   said_so = said_so;
 }

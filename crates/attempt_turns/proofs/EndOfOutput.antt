@@ -82,10 +82,7 @@ on_end w streams read own readable on =
       got_lines = on.got_lines ∙ ap length (sym (same_gots events ReadEnd refl));
       gives_next = give_end ids read w own readable.empty readable.going none.1 on.read_so on.gives_next;
       reads_first = λ so. absurd (false≢true (sym so));
-      own_lines = λ is_none zero. (let front = on.own_lines is_none zero in (
-          front.0,
-          ap (λ list. texts (filter (λ line. passes ids line.found) (lines_read read list))) (same_reads events ReadEnd refl) ∙ (front.1 ∙ ap (λ list. list ++ front.0) (sym (same_gives events ReadEnd refl))),
-        ));
+      own_lines = λ is_none zero. ap (λ list. texts (filter (λ line. passes ids line.found) (lines_read read list))) (same_reads events ReadEnd refl) ∙ (on.own_lines is_none zero ∙ ap (λ list. list ++ option_to_list w.held) (sym (same_gives events ReadEnd refl)));
     }
 
 pub end_way : (w : Worker) (old new : Seen) (desk : DeskSeen) → IsReadable w → Live w old → own_events new ≡ told_by (λ events. cond (read_over events) [] (ReadEnd ∷ [])) (own_events old) → Grew old new → Ran (Stands w) (Stands (over_worker w)) old new desk desk

@@ -3,3 +3,4 @@ pub mod Lists
 pub mod ReadLemmas
 pub mod EndLemmas
 pub mod EndOfOutput
+pub mod GiveLemmas

@@ -214,6 +214,17 @@ give_so ids read w own text answer ledger empty going read_so gives_it before =
     ∙ (sym (append-nil (gives next ++ option_to_list (held_by answer text)))
     ∙ ap (λ list. (gives next ++ option_to_list (held_by answer text)) ++ list) (sym (none_left (heard_worker w ledger answer text) ids read next going)))))))
 
+passed_so : (ids : List StreamId) (read : Reading) (w : Worker) (own : Running) (text : List ℕ) (answer : Verdict) → w.held ≡ None → is_give answer ≡ passes ids (read text) → texts (passed ids read own.events) ≡ gives own.events ++ option_to_list w.held
+    → texts (passed ids read (own.events ++ ReadLine text ∷ [])) ≡ gives (own.events ++ ReadLine text ∷ []) ++ option_to_list (held_by answer text)
+passed_so ids read w own text answer empty gives_it before =
+    let events = own.events in
+    let more : texts (filter (λ line. passes ids line.found) (line_read read text ∷ [])) ≡ option_to_list (held_by answer text) =
+    passed_list (passes ids (read text)) (line_read read text) ∙ (ap (λ b. cond b (text ∷ []) []) (sym gives_it) ∙ sym (held_list (is_give answer) text)) in
+    ap (λ list. texts (filter (λ line. passes ids line.found) (lines_read read list))) (reads_one events (ReadLine text))
+    ∙ (passed_one ids read (reads events) text
+    ∙ (ap (λ list. list ++ texts (filter (λ line. passes ids line.found) (line_read read text ∷ []))) (before ∙ (ap (λ held. gives events ++ option_to_list held) empty ∙ (append-nil (gives events) ∙ sym (same_gives events (ReadLine text) refl))))
+    ∙ ap (λ list. gives (events ++ ReadLine text ∷ []) ++ list) more))
+
 pub front_read : (ids : List StreamId) (read : Reading) (own : Running) (text : List ℕ) → IsPrefix (gives own.events) (texts (passed ids read own.events)) → IsPrefix (gives (own.events ++ ReadLine text ∷ [])) (texts (passed ids read (own.events ++ ReadLine text ∷ [])))
 front_read ids read own text front =
     let more = texts (filter (λ line. passes ids line.found) (line_read read text ∷ [])) in (
@@ -263,7 +274,7 @@ on_read w streams read own text answer ledger empty going opened few goes by on 
       got_lines = on.got_lines ∙ ap length (sym (same_gots events (ReadLine text) refl));
       gives_next = give_so ids read w own text answer ledger empty going on.read_so gives_it on.gives_next;
       reads_first = λ so. on.reads_first so;
-      own_lines = λ none zero. front_read (ids_of streams) read own text (on.own_lines none zero);
+      own_lines = λ none zero. passed_so ids read w own text answer empty gives_it (on.own_lines none zero);
     }
   where
     one_more_read : length (reads (own.events ++ ReadLine text ∷ [])) ≤ MOST_LINES

@@ -15,7 +15,7 @@ use Rattle.airbyte_message.specs.Messages.{IsMessage}
 use Rattle.airbyte_message.specs.State.{State as StateMsg}
 use Rattle.catalog.specs.Reading.{ids_of}
 use Rattle.catalog.specs.declared.stream.ConfStream.{ConfStream}
-use Rattle.load_rules.specs.Prefixes.{EachFits, IsPrefix}
+use Rattle.load_rules.specs.Prefixes.{EachFits}
 use Rattle.load_rules.specs.Lines.{Reading, lines_read, state_in}
 use Rattle.load_rules.specs.Taken.{LaneState, states}
 use Rattle.load_rules.specs.Finished.{last_status}
@@ -116,9 +116,9 @@ pub record IsOn (w : Worker) (streams : List ConfStream) (read : Reading) (own :
   pub few_lines : length (reads own.events) ≤ MOST_LINES
   pub got_lines : w.got_lines ≡ length (gots own.events)
   pub gives_next : to_give (ids_of streams) read own.events ≡ (gives own.events ++ option_to_list w.held) ++ left_to_give w (ids_of streams) read own.events
-  -- completions are made behind the end of the output; before the first of them all that was given was read
+  -- completions are made behind the end of the output; before the first of them what was given and what is held are all that is passed on
   pub reads_first : w.read_over ≡ false → (w.is_completing ≡ false) × (w.completed ≡ 0)
-  pub own_lines : w.is_completing ≡ false → w.completed ≡ 0 → IsPrefix (gives own.events) (texts (passed (ids_of streams) read own.events))
+  pub own_lines : w.is_completing ≡ false → w.completed ≡ 0 → texts (passed (ids_of streams) read own.events) ≡ gives own.events ++ option_to_list w.held
 
 -- the attempt is the call's last: so many were begun, and all before it have ended
 pub record IsLast (w : Worker) (here : Place) : Type 0 where
