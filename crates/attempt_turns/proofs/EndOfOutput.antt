@@ -116,11 +116,11 @@ end_way w old new desk readable live added grew = record {
 
 -- ---- the link behind a poll
 
-told_read : (told : Option (List Event)) (event : Event) (over : Bool) → ((b : Bool) → read_over_after b event ≡ b) → IfSome told (λ events. read_over events ≡ over) → IfSome (told_more (event ∷ []) told) (λ events. read_over events ≡ over)
+pub told_read : (told : Option (List Event)) (event : Event) (over : Bool) → ((b : Bool) → read_over_after b event ≡ b) → IfSome told (λ events. read_over events ≡ over) → IfSome (told_more (event ∷ []) told) (λ events. read_over events ≡ over)
 told_read None event over same is = tt
 told_read (Some events) event over same is = read_over_one events event ∙ (same (read_over events) ∙ is)
 
-told_got : (told : Option (List Event)) (event : Event) (over : Bool) → ((b : Bool) → got_over_after b event ≡ b) → IfSome told (λ events. got_over events ≡ over) → IfSome (told_more (event ∷ []) told) (λ events. got_over events ≡ over)
+pub told_got : (told : Option (List Event)) (event : Event) (over : Bool) → ((b : Bool) → got_over_after b event ≡ b) → IfSome told (λ events. got_over events ≡ over) → IfSome (told_more (event ∷ []) told) (λ events. got_over events ≡ over)
 told_got None event over same is = tt
 told_got (Some events) event over same is = got_over_one events event ∙ (same (got_over events) ∙ is)
 

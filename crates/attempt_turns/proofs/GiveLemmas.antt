@@ -1,5 +1,5 @@
 -- A line of the source is given.
-use Rattle.std.proofs.Common.{arith, ◌≡◌, ◌⊎◌, inl, inr, ℕ, ◌<◌, ◌≤◌, List, [], ◌∷◌, ◌++◌, Bool, true, false, cond, Option, None, Some, refl, sym, ◌∙◌, ap, subst, append_assoc, append-nil, length}
+use Rattle.std.proofs.Common.{arith, ◌≡◌, ◌⊎◌, inl, inr, ℕ, zero, suc, ◌<◌, ◌≤◌, List, [], ◌∷◌, ◌++◌, Bool, true, false, cond, Option, None, Some, IfSome, IsTrue, refl, sym, ◌∙◌, ap, subst, append_assoc, append-nil, length}
 use Rattle.std.specs.Prelude.{filter, map, option_map, option_to_list, is_none, drop}
 use Rattle.std.specs.List.{list_any}
 use Rattle.std.proofs.lemmas.Bool.{false≢true}
@@ -23,13 +23,22 @@ use Rattle.sync_ledger.specs.Noted.{Noted, gave}
 use Rattle.sync_ledger.specs.declared.notes.TheConstants.{MOST_LINES}
 use Rattle.ledger_rules.specs.Ledgers.{IsLedgerOf}
 use Rattle.ledger_rules.proofs.Stands.{gives as ledger_gives}
-use Rattle.attempt_turns.specs.Acts.{does, place_after}
+use Rattle.outside.specs.declared.event.Exit.TheVariants.{Code}
+use Rattle.outside.specs.declared.link.LinkFace.{LinkFace}
+use Rattle.outside.specs.declared.status.Status.{Status}
+use Rattle.outside.specs.declared.status.Status.TheVariants as status
+use Rattle.load_rules.specs.Prefixes.{IsPrefix}
+use Rattle.sync_rules.specs.Calls.{Call}
+use Rattle.attempt_turns.specs.Acts.{Place, does, place_after}
+use Rattle.attempt_turns.specs.Ends.{CanStop, Ends, EndsSo}
 use Rattle.attempt_turns.specs.History.{Leads, Ran}
-use Rattle.attempt_turns.specs.Worker.{ComesBack, IsOn, Stands, is_error, left_to_give, source_held, untold_from}
+use Rattle.attempt_turns.proofs.EndOfOutput.{told_got, told_read}
+use Rattle.attempt_turns.specs.Worker.{ComesBack, IsOn, Live, Stands, is_error, left_to_give, source_held, untold_from}
 use Rattle.attempt_turns.specs.declared.worker.Worker.{Worker}
 use Rattle.attempt_turns.proofs.Lists.{any_one, each_one, gives_one, got_over_one, read_over_one, same_gots, same_reads}
 use Rattle.attempt_turns.proofs.ReadLemmas.{not_completing}
-use Rattle.attempt_turns.proofs.EndLemmas.{desk_same, none_said}
+use Rattle.attempt_turns.proofs.EndLemmas.{clean, desk_same, ends_here, given_front, no_events, none_said, stays_way}
+use Rattle.attempt_turns.proofs.Ways.{grew_none}
 
 abbrev pub given_worker : Worker → Worker
 given_worker w = record w { ledger = gave w.ledger; held = None }
@@ -115,3 +124,73 @@ gives_way w text old new desk held own_line opened added grew = record {
       },
     );
 }
+
+-- ---- an offer that fails
+
+may_stop_by : (w : Worker) (call : Call) (streams : List ConfStream) (read : Reading) (face : LinkFace) (here : Place) (said : List (List ℕ)) → w.is_completing ≡ false → (0 < w.completed → face.codes.source ≡ Some (Code 0)) → Stands w call streams read here said → CanStop streams read face here
+may_stop_by w call streams read face here said own_line code stands = record { attempt = stands.attempt; runs = stands.runs; going = stands.on.going; rightly = at w.completed refl }
+  where
+    at : (n : ℕ) → w.completed ≡ n → IsPrefix (gives stands.attempt.events) (texts (passed (ids_of streams) read stands.attempt.events)) ⊎ (face.codes.source ≡ Some (Code 0))
+    at zero none = inl (given_front w streams read stands.attempt stands.on own_line none)
+    at (suc n) some = inr (code (omega (arith, some)))
+
+ends_offer : (end : Status) (w : Worker) (old new : Seen) (desk : DeskSeen) → w.is_completing ≡ false → Live w old → new.face ≡ old.face → own_events new ≡ own_events old → Grew old new
+    → ((streams : List ConfStream) (read : Reading) (own : Running) → IsOn w streams read own → EndsSo end (ids_of streams) read new.face own) → Ran (Stands w) (Ends end new.face w) old new desk desk
+ends_offer end w old new desk own_line live face same grew so = record {
+  acts = [];
+  lines = [];
+  added = no_events old new same;
+  said = none_said desk;
+  grew = grew;
+  desk = desk_same desk;
+  leads = λ call streams read here said reading stands. (
+      here,
+      refl,
+      subst (λ list. Ends end new.face w call streams read here list) (sym (append-nil said))
+      (ends_here end new.face w call streams read here said stands (so streams read stands.attempt stands.on)
+      (λ running. may_stop_by w call streams read new.face here said own_line (λ some. ap (λ (it : LinkFace). it.codes.source) face ∙ live.completed (inr some)) stands)),
+    );
+}
+
+pub offer_failed : (w : Worker) (old new : Seen) (desk : DeskSeen) → w.is_completing ≡ false → Live w old → new.face ≡ old.face → own_events new ≡ own_events old → Grew old new → Ran (Stands w) (Ends status.LinkFault new.face w) old new desk desk
+offer_failed w old new desk own_line live face same grew = ends_offer status.LinkFault w old new desk own_line live face same grew (λ streams read own on. clean w streams read own on)
+
+pub offer_lacked : (w : Worker) (old new : Seen) (desk : DeskSeen) → w.is_completing ≡ false → Live w old → new.face ≡ old.face → own_events new ≡ own_events old → Grew old new → Ran (Stands w) (Ends status.NoMemory new.face w) old new desk desk
+offer_lacked w old new desk own_line live face same grew = ends_offer status.NoMemory w old new desk own_line live face same grew (λ streams read own on. tt)
+
+-- ---- the link behind an offer
+
+pub live_same : (w : Worker) (old new : Seen) → Live w old → new.face ≡ old.face → own_events new ≡ own_events old → Live w new
+live_same w old new live face same = record {
+  running = subst (λ (it : LinkFace). IsTrue it.running) (sym face) live.running;
+  input_open = λ opened. subst (λ (it : LinkFace). IsTrue it.input_open) (sym face) (live.input_open opened);
+  read_told = subst (λ told. IfSome told (λ events. read_over events ≡ w.read_over)) (sym same) live.read_told;
+  got_told = subst (λ told. IfSome told (λ events. got_over events ≡ w.got_over)) (sym same) live.got_told;
+  source_short = λ long. live.source_short (sym (ap (λ (it : LinkFace). it.source_poll) face) ∙ long);
+  dest_short = λ long. live.dest_short (sym (ap (λ (it : LinkFace). it.dest_poll) face) ∙ long);
+  completed = λ some. ap (λ (it : LinkFace). it.codes.source) face ∙ live.completed some;
+  all_completed = λ closed code. live.all_completed closed (sym (ap (λ (it : LinkFace). it.codes.source) face) ∙ code);
+}
+
+pub live_given : (w : Worker) (text : List ℕ) (old new : Seen) → w.closed ≡ false → Live w old → new.face ≡ old.face → own_events new ≡ told_more (Given text ∷ []) (own_events old) → Live (given_worker w) new
+live_given w text old new opened live face added = record {
+  running = subst (λ (it : LinkFace). IsTrue it.running) (sym face) live.running;
+  input_open = λ open_so. subst (λ (it : LinkFace). IsTrue it.input_open) (sym face) (live.input_open open_so);
+  read_told = subst (λ told. IfSome told (λ events. read_over events ≡ w.read_over)) (sym added) (told_read (own_events old) (Given text) w.read_over (λ b. refl) live.read_told);
+  got_told = subst (λ told. IfSome told (λ events. got_over events ≡ w.got_over)) (sym added) (told_got (own_events old) (Given text) w.got_over (λ b. refl) live.got_told);
+  source_short = λ long. live.source_short (sym (ap (λ (it : LinkFace). it.source_poll) face) ∙ long);
+  dest_short = λ long. live.dest_short (sym (ap (λ (it : LinkFace). it.dest_poll) face) ∙ long);
+  completed = λ some. ap (λ (it : LinkFace). it.codes.source) face ∙ live.completed some;
+  all_completed = λ closed code. absurd (false≢true (sym opened ∙ closed));
+}
+
+-- ---- for the function
+
+pub gives_taken : (w : Worker) (ledger : Noted) (text line : List ℕ) (old new : Seen) (desk : DeskSeen) → ledger ≡ gave w.ledger → line ≡ text → w.held ≡ Some text → w.is_completing ≡ false → w.closed ≡ false → own_events new ≡ told_more (Given line ∷ []) (own_events old) → Grew old new
+    → Ran (Stands w) (Stands (record w { ledger = ledger; held = None })) old new desk desk
+gives_taken w ledger text line old new desk gave_is same held own_line opened added grew =
+    subst (λ it. Ran (Stands w) (Stands (record w { ledger = it; held = None })) old new desk desk) (sym gave_is)
+    (gives_way w text old new desk held own_line opened (added ∙ ap (λ it. told_more (Given it ∷ []) (own_events old)) same) grew)
+
+pub rests_way : (w : Worker) (seen : Seen) (desk : DeskSeen) → Ran (Stands w) (Stands w) seen seen desk desk
+rests_way w seen desk = stays_way w seen seen desk refl (grew_none seen)

@@ -75,6 +75,14 @@ grew_then x y z first second = record {
       (λ told is. record { not_below = none_above x.counts y.counts told.counts first.counts is.not_below; not_above = is.not_above }) first.timed second.timed;
 }
 
+pub grew_none : (seen : Seen) → Grew seen seen
+grew_none seen = record {
+  counts = record { state_faults = omega arith; link_faults = omega arith; quiet_source = omega arith; quiet_dest = omega arith; quiet_codes = omega arith; waits = omega arith };
+  more = [];
+  grew = sym (told_none seen.trace);
+  timed = tt;
+}
+
 pub desk_then : (x y z : DeskSeen) → KeepsDesk x y → KeepsDesk y z → KeepsDesk x z
 desk_then x y z first second = record {
   say_faults = le_then x.say_faults y.say_faults z.say_faults first.say_faults second.say_faults;
