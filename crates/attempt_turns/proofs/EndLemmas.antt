@@ -52,7 +52,7 @@ use Rattle.ledger_rules.proofs.Judges.{judges, ok_is}
 use Rattle.ledger_rules.proofs.Stands.{reads_on}
 use Rattle.attempt_turns.specs.Acts.{Act, does, Place, is_refused, lines_of, lines_told, reads_in}
 use Rattle.attempt_turns.specs.History.{Leads, KeepsDesk, Ran}
-use Rattle.attempt_turns.specs.Ends.{CanStop, Ends, EndsSo, ErrsSo, IsClean, RefusesLast, SaidSo}
+use Rattle.attempt_turns.specs.Ends.{CanStop, Ends, EndsSo, ErrsSo, IsClean, RefusesLast, SaidSo, TurnCause}
 use Rattle.attempt_turns.specs.Heard.{HalfSaid, HearsSource, LineEnds, SaysLines, lines_answered}
 use Rattle.attempt_turns.specs.Worker.{ComesBack, IsLast, IsOn, IsReadable, Stands, is_error, is_error_saying, is_error_told, source_held}
 use Rattle.attempt_turns.specs.declared.worker.Worker.{Worker}
@@ -407,3 +407,11 @@ failed_way w old new desk going same grew = ends_way status.LinkFault w old new 
 
 pub lacked_way : (w : Worker) (old new : Seen) (desk : DeskSeen) → w.read_over ≡ false → own_events new ≡ own_events old → Grew old new → Ran (Stands w) (Ends status.NoMemory new.face w) old new desk desk
 lacked_way w old new desk going same grew = ends_way status.NoMemory w old new desk going same grew (λ streams read own on. tt)
+
+-- ---- causes
+
+pub line_cause : (end : Status) (w now : Worker) (text : List ℕ) (old new : Seen) (desk_old desk_new : DeskSeen) → LineEnds end w text now desk_old desk_new → TurnCause end old new desk_old desk_new
+line_cause status.SayFault w now text old new desk_old desk_new is = is.said.rose
+line_cause status.LinkFault w now text old new desk_old desk_new is = absurd is
+line_cause status.StateFault w now text old new desk_old desk_new is = absurd is
+line_cause end w now text old new desk_old desk_new is = tt

@@ -1,6 +1,6 @@
 // The source's side of a turn.
 ghost use Rattle.std.specs.Prelude.{◌≡◌, None, IfErr, IfOk, OnErr, OnOk};
-ghost use Rattle.attempt_turns.specs.Ends.{Ends};
+ghost use Rattle.attempt_turns.specs.Ends.{Ends, TurnCause, WasQuiet};
 ghost use Rattle.attempt_turns.specs.Heard.{HeardSource, HearsSource, LineEnds, RefusedSource};
 ghost use Rattle.attempt_turns.specs.History.{Ran};
 ghost use Rattle.attempt_turns.specs.Worker.{IsReadable, Live, Stands};
@@ -68,6 +68,8 @@ pub fn read_source<K: Desk, L: Link>(
     ensures ok { OnOk result (Ran (Stands w.old) (Stands w.new) (L.seen link.old) (L.seen link.new) (K.seen desk.old) (K.seen desk.new)) }
     ensures live { OnOk result (Live w.new (L.seen link.new)) }
     ensures err { IfErr result (λ end. Ran (Stands w.old) (Ends end (L.seen link.new).face w.new) (L.seen link.old) (L.seen link.new) (K.seen desk.old) (K.seen desk.new)) }
+    ensures cause { IfErr result (λ end. TurnCause end (L.seen link.old) (L.seen link.new) (K.seen desk.old) (K.seen desk.new)) }
+    ensures quiet { IfOk result (λ moved. WasQuiet moved (L.seen link.old) (L.seen link.new)) }
 {
     match link.poll_source() {
         Polled::Line(line) => match take_read(desk, w, line) {

@@ -1,9 +1,6 @@
 use Rattle.attempt_turns.proofs.EndLemmas.{stays_way}
-use Rattle.attempt_turns.proofs.GiveLemmas.{gives_taken, offer_failed, offer_lacked, rests_way}
+use Rattle.attempt_turns.proofs.GiveLemmas.{gives_taken, offer_failed, offer_lacked}
 use Rattle.attempt_turns.proofs.give.offer_held.Goals as goal
-
-pub returns-in_default-clause-ok : goal.returns-in_default-clause-ok
-returns-in_default-clause-ok g c = λ desk. rests_way _ _ desk
 
 pub returns-in-Taken-clause-ok : goal.returns-in-Taken-clause-ok
 returns-in-Taken-clause-ok g c = λ desk. gives_taken c.args.w.now _ _ _ _ _ desk c.gave.ensures c.as_slice.ensures c.in-Some.is c.requires.own c.requires.opened c.in-Taken.ensures.events c.in-Taken.ensures.grew

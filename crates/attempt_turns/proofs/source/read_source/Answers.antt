@@ -1,7 +1,7 @@
 use Rattle.std.proofs.Common.{◌∙◌, ◌+◌, ◌-◌, ◌^◌, min, ap}
 use Rattle.outside.specs.declared.link.LinkFace.{LinkFace}
 use Rattle.attempt_turns.proofs.ReadLemmas.{reads_way}
-use Rattle.attempt_turns.proofs.EndLemmas.{failed_way, lacked_way, line_ends_way, stays_way, too_long_way}
+use Rattle.attempt_turns.proofs.EndLemmas.{failed_way, lacked_way, line_cause, line_ends_way, stays_way, too_long_way}
 use Rattle.attempt_turns.proofs.EndOfOutput.{end_way, live_end, live_quiet, live_read, live_torn}
 use Rattle.attempt_turns.proofs.source.read_source.Goals as goal
 
@@ -43,3 +43,10 @@ returns-in-NoMemory-clause-err g c = lacked_way _ _ _ _ c.requires.readable.goin
 
 pub returns-in-TooLong-clause-err : goal.returns-in-TooLong-clause-err
 returns-in-TooLong-clause-err g c = too_long_way c.saturating_add.result c.args.w.now _ _ _ c.requires.readable.going (c.saturating_add.ensures ∙ ap (λ n. min (n + 1) (2 ^ 64 - 1)) c.lines.ensures) c.in-TooLong.ensures.events c.in-TooLong.ensures.grew (ap (λ (it : LinkFace). it.source_poll) c.in-TooLong.ensures.face)
+
+-- causes
+pub returns-in-Err-clause-cause : goal.returns-in-Err-clause-cause
+returns-in-Err-clause-cause g c = line_cause _ _ _ _ _ _ _ _ c.in-Err.ensures.err
+
+pub returns-in-Err-take_read-clause-cause : goal.returns-in-Err-take_read-clause-cause
+returns-in-Err-take_read-clause-cause g c = line_cause _ _ _ _ _ _ _ _ c.in-Err-take_read.ensures.err
