@@ -4,3 +4,4 @@ pub mod ReadLemmas
 pub mod EndLemmas
 pub mod EndOfOutput
 pub mod GiveLemmas
+pub mod Worked

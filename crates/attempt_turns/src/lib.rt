@@ -8,7 +8,7 @@ mod source;
 mod worker;
 
 pub use give::offer_held;
-pub use laws::ways_go_on;
+pub use laws::{ways_as_worked, ways_go_on};
 pub use say::say_line;
 pub use source::read_source;
 pub use worker::{Moved, Worker};
