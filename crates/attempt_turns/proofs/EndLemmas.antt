@@ -1,17 +1,14 @@
 -- An attempt ends where its worker stands, or behind a line that was read.
-use Rattle.std.proofs.Common.{arith, ◌≡◌, ◌⊎◌, inl, inr, ℕ, ◌+◌, ◌-◌, min, ◌<◌, ◌≤◌, List, [], ◌∷◌, ◌++◌, Bool, true, false, cond, ◌||◌, Option, None, Some, Result, Ok, Err, refl, sym, ◌∙◌, ap, subst, append_assoc, append-nil, length, length-append, nat_lt, lt-ltb}
+use Rattle.std.proofs.Common.{arith, ◌≡◌, inl, inr, ℕ, ◌+◌, ◌-◌, min, ◌<◌, ◌≤◌, List, [], ◌∷◌, ◌++◌, Bool, true, false, cond, ◌||◌, Option, None, Some, Ok, Err, refl, sym, ◌∙◌, ap, subst, append_assoc, append-nil, length, length-append, nat_lt, lt-ltb}
 use Rattle.std.specs.Prelude.{option_map, option_to_list, ◌^◌}
 use Rattle.std.proofs.lemmas.List.{length-map}
 use Rattle.std.specs.List.{list_any}
 use Rattle.std.proofs.lemmas.Bool.{false≢true}
 use Rattle.basics.specs.declared.limits.TheConstants.{LONGEST_LINE}
-use Rattle.basics.specs.declared.stream.StreamId.{StreamId}
 use Rattle.basics.specs.Told.{told_more}
 use Rattle.outside.specs.Desk.{DeskSeen}
 use Rattle.outside.specs.Link.{Seen, Grew, own_events}
-use Rattle.outside.specs.declared.event.Event.{Event}
 use Rattle.outside.specs.declared.event.Event.TheVariants.{ReadLine}
-use Rattle.outside.specs.declared.event.Exit.TheVariants.{Code}
 use Rattle.outside.specs.declared.faults.Breach.{Breach}
 use Rattle.outside.specs.declared.faults.Breach.TheVariants as breach
 use Rattle.outside.specs.declared.link.LinkFace.{LinkFace}
@@ -29,8 +26,8 @@ use Rattle.sync_rules.specs.Sync.{Running, Sync, texts}
 use Rattle.airbyte_message.specs.Lanes.{lane_of}
 use Rattle.airbyte_message.specs.Messages.{IsMessage}
 use Rattle.outside.specs.declared.faults.Side.TheVariants as side
-use Rattle.load_rules.specs.Lines.{ReadsText, IsReading}
-use Rattle.load_rules.specs.Attempts.{gots, reads}
+use Rattle.load_rules.specs.Lines.{ReadsText}
+use Rattle.load_rules.specs.Attempts.{reads}
 use Rattle.load_rules.specs.Engine.{is_ended}
 use Rattle.sync_rules.specs.Calls.{Standing}
 use Rattle.sync_rules.specs.Sync.{and_event}
@@ -50,11 +47,11 @@ use Rattle.sync_ledger.specs.declared.verdict.Verdict.TheVariants as verdict
 use Rattle.ledger_rules.specs.Ledgers.{IsLedgerOf, breach_in, told_read}
 use Rattle.ledger_rules.proofs.Judges.{judges, ok_is}
 use Rattle.ledger_rules.proofs.Stands.{reads_on}
-use Rattle.attempt_turns.specs.Acts.{Act, does, Place, is_refused, lines_of, lines_told, reads_in}
-use Rattle.attempt_turns.specs.History.{Leads, KeepsDesk, Ran}
+use Rattle.attempt_turns.specs.Acts.{does, Place, is_refused, lines_of, lines_told, reads_in}
+use Rattle.attempt_turns.specs.History.{KeepsDesk, Ran}
 use Rattle.attempt_turns.specs.Ends.{CanStop, Ends, EndsSo, ErrsSo, IsClean, RefusesLast, SaidSo, TurnCause}
 use Rattle.attempt_turns.specs.Heard.{HalfSaid, HearsSource, LineEnds, SaysLines, lines_answered}
-use Rattle.attempt_turns.specs.Worker.{ComesBack, IsLast, IsOn, IsReadable, Stands, is_error, is_error_saying, is_error_told, source_held}
+use Rattle.attempt_turns.specs.Worker.{ComesBack, IsOn, IsReadable, Stands, is_error, is_error_saying, is_error_told, source_held}
 use Rattle.attempt_turns.specs.declared.worker.Worker.{Worker}
 use Rattle.attempt_turns.proofs.Lists.{any_one, each_one, reads_one, same_gots}
 use Rattle.attempt_turns.proofs.ReadLemmas.{account_give, answer_only, few_lines, front_read, going_read, judged_by, lines_are, not_completing, not_refused, read_place, short, state_give, told_is}
@@ -130,11 +127,11 @@ ends_way end w old new desk going same grew so = record {
   grew = grew;
   desk = desk_same desk;
   leads = λ call streams read here said reading stands. (
-      here,
-      refl,
-      subst (λ list. Ends end new.face w call streams read here list) (sym (append-nil said))
-      (ends_here end new.face w call streams read here said stands (so streams read stands.attempt stands.on) (λ running. may_stop w call streams read new.face here said going stands)),
-    );
+    here,
+    refl,
+    subst (λ list. Ends end new.face w call streams read here list) (sym (append-nil said))
+        (ends_here end new.face w call streams read here said stands (so streams read stands.attempt stands.on) (λ running. may_stop w call streams read new.face here said going stands)),
+  );
 }
 
 -- nothing was told, and it stands as before
@@ -164,11 +161,11 @@ read_ends end face w now call streams read here said lines text stands going kep
   so = λ same. (and_event (ReadLine text) stands.attempt, ap (option_map (and_event (ReadLine text))) stands.runs, so);
   unstarted = λ less. absurd (less_same here.standing.called.number now.number (stands.is_last.number ∙ sym number) less);
   can_stop = λ same running. record {
-      attempt = and_event (ReadLine text) stands.attempt;
-      runs = ap (option_map (and_event (ReadLine text))) stands.runs;
-      going = any_one is_ended stands.attempt.events (ReadLine text) refl ∙ stands.on.going;
-      rightly = (let none = stands.on.reads_first going in inl (front_read (ids_of streams) read stands.attempt text (given_front w streams read stands.attempt stands.on none.0 none.1)));
-    };
+    attempt = and_event (ReadLine text) stands.attempt;
+    runs = ap (option_map (and_event (ReadLine text))) stands.runs;
+    going = any_one is_ended stands.attempt.events (ReadLine text) refl ∙ stands.on.going;
+    rightly = (let none = stands.on.reads_first going in inl (front_read (ids_of streams) read stands.attempt text (given_front w streams read stands.attempt stands.on none.0 none.1)));
+  };
   said_so = said_so;
 }
 
@@ -185,11 +182,11 @@ no_memory_way w now text old new desk_old desk_new number says going added grew 
   grew = grew;
   desk = says.keeps;
   leads = λ call streams read here said reading stands. (
-      read_place read here text,
-      going_read w call streams read here said text going stands,
-      read_ends status.NoMemory new.face w now call streams read here said [] text stands going refl number tt
-      (lines_of read here.standing (ReadLine text), ap (λ list. list ++ lines_of read here.standing (ReadLine text)) (stands.said_all ∙ sym (append-nil said))),
-    );
+    read_place read here text,
+    going_read w call streams read here said text going stands,
+    read_ends status.NoMemory new.face w now call streams read here said [] text stands going refl number tt
+        (lines_of read here.standing (ReadLine text), ap (λ list. list ++ lines_of read here.standing (ReadLine text)) (stands.said_all ∙ sym (append-nil said))),
+  );
 }
 
 -- the lines that a line that was heard asks for
@@ -212,11 +209,11 @@ half_said_way w now text old new desk_old desk_new half going added grew = recor
   grew = grew;
   desk = half.said.keeps;
   leads = λ call streams read here said reading stands. (
-      read_place read here text,
-      going_read w call streams read here said text going stands,
-      read_ends status.SayFault new.face w now call streams read here said half.said.front.front text stands going refl (ap (λ (it : Worker). it.number) half.heard.is) tt
-      (half.said.front.rest, heard_lines w now call streams read here said text half.answer half.heard.few reading.0 half.heard stands ∙ (ap (λ list. said ++ list) half.said.front.splits ∙ sym (append_assoc said half.said.front.front half.said.front.rest))),
-    );
+    read_place read here text,
+    going_read w call streams read here said text going stands,
+    read_ends status.SayFault new.face w now call streams read here said half.said.front.front text stands going refl (ap (λ (it : Worker). it.number) half.heard.is) tt
+        (half.said.front.rest, heard_lines w now call streams read here said text half.answer half.heard.few reading.0 half.heard stands ∙ (ap (λ list. said ++ list) half.said.front.splits ∙ sym (append_assoc said half.said.front.front half.said.front.rest))),
+  );
 }
 
 pub idle_ledger : (w : Worker) (streams : List ConfStream) (read : Reading) (own : Running) → w.held ≡ None → w.is_completing ≡ false → IsOn w streams read own → IsLedgerOf (ids_of streams) own.start read own.events None w.ledger
@@ -257,12 +254,12 @@ error_way w now text words line old new desk_old desk_new empty reading_on heard
   grew = grew;
   desk = says.keeps;
   leads = λ call streams read here said reading stands. (
-      read_place read here text,
-      going_read w call streams read here said text going stands,
-      read_ends (status.ConfigError side.Source line) new.face w now call streams read here said (words ∷ []) text stands going refl (ap (λ (it : Worker). it.number) heard_is.is)
-      (errs streams read stands.attempt reading.0 stands.on)
-      (heard_lines w now call streams read here said text (verdict.ConfigError words) heard_is.few reading.0 heard_is stands),
-    );
+    read_place read here text,
+    going_read w call streams read here said text going stands,
+    read_ends (status.ConfigError side.Source line) new.face w now call streams read here said (words ∷ []) text stands going refl (ap (λ (it : Worker). it.number) heard_is.is)
+        (errs streams read stands.attempt reading.0 stands.on)
+        (heard_lines w now call streams read here said text (verdict.ConfigError words) heard_is.few reading.0 heard_is stands),
+  );
 }
   where
     errs : (streams : List ConfStream) (read : Reading) (own : Running) → ReadsText read text → IsOn w streams read own → ErrsSo side.Source line (ids_of streams) read (and_event (ReadLine text) own)
@@ -298,12 +295,12 @@ too_many_way w now text old new desk_old desk_new many same says going added gre
   grew = grew;
   desk = says.keeps;
   leads = λ call streams read here said reading stands. (
-      read_place read here text,
-      going_read w call streams read here said text going stands,
-      read_ends status.TooManyLines new.face w now call streams read here said [] text stands going refl (ap (λ (it : Worker). it.number) same)
-      (inl (last_line streams read stands.attempt stands.on))
-      (ap (λ list. list ++ lines_of read here.standing (ReadLine text)) stands.said_all ∙ ap (λ list. said ++ list) (ap (λ b. cond b [] (lines_told (told_of side.Source text (read text)))) (refused call streams read here said stands))),
-    );
+    read_place read here text,
+    going_read w call streams read here said text going stands,
+    read_ends status.TooManyLines new.face w now call streams read here said [] text stands going refl (ap (λ (it : Worker). it.number) same)
+        (inl (last_line streams read stands.attempt stands.on))
+        (ap (λ list. list ++ lines_of read here.standing (ReadLine text)) stands.said_all ∙ ap (λ list. said ++ list) (ap (λ b. cond b [] (lines_told (told_of side.Source text (read text)))) (refused call streams read here said stands))),
+  );
 }
   where
     last_line : (streams : List ConfStream) (read : Reading) (own : Running) → IsOn w streams read own → length (reads (own.events ++ ReadLine text ∷ [])) ≡ 2 ^ 32
@@ -356,12 +353,12 @@ breach_way w now text why line old new desk_old desk_new reading_on refuses numb
   grew = grew;
   desk = says.keeps;
   leads = λ call streams read here said reading stands. (
-      read_place read here text,
-      going_read w call streams read here said text going stands,
-      read_ends (status.SourceBreach why line) new.face w now call streams read here said [] text stands going refl (ap (λ (it : Worker). it.number) same)
-      (inl (refused streams read stands.attempt reading.0 stands.on))
-      (ap (λ list. list ++ lines_of read here.standing (ReadLine text)) stands.said_all ∙ ap (λ list. said ++ list) (refused_lines w.ledger here.standing text (told_of side.Source text (read text)) why (judged_err w read text why reading.0 refuses))),
-    );
+    read_place read here text,
+    going_read w call streams read here said text going stands,
+    read_ends (status.SourceBreach why line) new.face w now call streams read here said [] text stands going refl (ap (λ (it : Worker). it.number) same)
+        (inl (refused streams read stands.attempt reading.0 stands.on))
+        (ap (λ list. list ++ lines_of read here.standing (ReadLine text)) stands.said_all ∙ ap (λ list. said ++ list) (refused_lines w.ledger here.standing text (told_of side.Source text (read text)) why (judged_err w read text why reading.0 refuses))),
+  );
 }
   where
     refused : (streams : List ConfStream) (read : Reading) (own : Running) → ReadsText read text → IsOn w streams read own → RefusesLast (ids_of streams) read (and_event (ReadLine text) own) why line

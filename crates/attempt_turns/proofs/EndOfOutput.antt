@@ -1,13 +1,13 @@
 -- The source's output ends.
 use Rattle.std.proofs.Common.{◌≡◌, ◌⊎◌, inl, inr, ℕ, ◌<◌, ◌≤◌, List, [], ◌∷◌, ◌++◌, Bool, true, false, cond, Option, None, Some, IfSome, IsTrue, refl, sym, ◌∙◌, ap, subst, append-nil, length}
-use Rattle.std.specs.Prelude.{filter, map, option_map, option_to_list, is_none, drop}
+use Rattle.std.specs.Prelude.{filter, map, option_map, option_to_list}
 use Rattle.std.specs.List.{list_any}
 use Rattle.std.proofs.lemmas.Bool.{false≢true}
 use Rattle.basics.specs.declared.stream.StreamId.{StreamId}
 use Rattle.basics.specs.Told.{told_by, told_more}
 use Rattle.outside.specs.Desk.{DeskSeen}
 use Rattle.outside.specs.Event.{read_over, read_over_after, got_over, got_over_after}
-use Rattle.outside.specs.Link.{Seen, Grew, ReadAdds, own_events, kind_of}
+use Rattle.outside.specs.Link.{Seen, Grew, own_events}
 use Rattle.outside.specs.declared.event.Event.{Event}
 use Rattle.outside.specs.declared.event.Event.TheVariants.{ReadEnd, ReadLine}
 use Rattle.outside.specs.declared.faults.Side.TheVariants as side
@@ -16,16 +16,14 @@ use Rattle.outside.specs.declared.link.PollKind.{PollKind}
 use Rattle.outside.specs.declared.link.PollKind.TheVariants as kind
 use Rattle.catalog.specs.Reading.{ids_of}
 use Rattle.catalog.specs.declared.stream.ConfStream.{ConfStream}
-use Rattle.load_rules.specs.Prefixes.{IsPrefix}
 use Rattle.load_rules.specs.Lines.{Reading, lines_read, passes}
-use Rattle.load_rules.specs.Finished.{last_status}
-use Rattle.load_rules.specs.Attempts.{gives, passed, reads}
+use Rattle.load_rules.specs.Attempts.{gives, passed}
 use Rattle.load_rules.specs.Engine.{is_closed, is_ended}
 use Rattle.sync_rules.specs.Sync.{Running, and_event, completion, texts, to_give, untold, with_event}
 use Rattle.sync_ledger.specs.declared.notes.TheConstants.{MOST_LINES}
 use Rattle.ledger_rules.proofs.Stands.{goes_on}
 use Rattle.attempt_turns.specs.Acts.{does, place_after}
-use Rattle.attempt_turns.specs.History.{Leads, Ran}
+use Rattle.attempt_turns.specs.History.{Ran}
 use Rattle.attempt_turns.specs.Heard.{HeardSource}
 use Rattle.attempt_turns.specs.Worker.{ComesBack, IsOn, IsReadable, Live, Stands, is_error, left_to_give, source_held, untold_from}
 use Rattle.attempt_turns.specs.declared.worker.Worker.{Worker}
@@ -94,24 +92,24 @@ end_way w old new desk readable live added grew = record {
   grew = grew;
   desk = desk_same desk;
   leads = λ call streams read here said reading stands. (
-      place_after read here ReadEnd (with_event ReadEnd here.standing.sync),
-      (
-        with_event ReadEnd here.standing.sync,
-        (runs_on here.standing.sync.attempt stands.attempt stands.runs stands.on.going (stands.on.read_so ∙ readable.going), refl),
-        subst (λ (n : ℕ). 0 < n) (sym stands.is_last.number) stands.is_last.positive,
-        record { works = stands.is_last.works; order = stands.is_last.number ∙ sym stands.is_last.ended },
-        refl,
-      ),
-      record {
-        is_last = record { begun = stands.is_last.begun; number = stands.is_last.number; positive = stands.is_last.positive; ended = stands.is_last.ended; works = stands.is_last.works };
-        attempt = and_event ReadEnd stands.attempt;
-        runs = ap (option_map (and_event ReadEnd)) stands.runs;
-        on = on_end w streams read stands.attempt readable stands.on;
-        set = stands.set;
-        none_owed = stands.none_owed;
-        said_all = ap (λ list. list ++ []) stands.said_all;
-      },
-    );
+    place_after read here ReadEnd (with_event ReadEnd here.standing.sync),
+    (
+      with_event ReadEnd here.standing.sync,
+      (runs_on here.standing.sync.attempt stands.attempt stands.runs stands.on.going (stands.on.read_so ∙ readable.going), refl),
+      subst (λ (n : ℕ). 0 < n) (sym stands.is_last.number) stands.is_last.positive,
+      record { works = stands.is_last.works; order = stands.is_last.number ∙ sym stands.is_last.ended },
+      refl,
+    ),
+    record {
+      is_last = record { begun = stands.is_last.begun; number = stands.is_last.number; positive = stands.is_last.positive; ended = stands.is_last.ended; works = stands.is_last.works };
+      attempt = and_event ReadEnd stands.attempt;
+      runs = ap (option_map (and_event ReadEnd)) stands.runs;
+      on = on_end w streams read stands.attempt readable stands.on;
+      set = stands.set;
+      none_owed = stands.none_owed;
+      said_all = ap (λ list. list ++ []) stands.said_all;
+    },
+  );
 }
 
 -- ---- the link behind a poll

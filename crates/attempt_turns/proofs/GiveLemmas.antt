@@ -1,5 +1,5 @@
 -- A line of the source is given.
-use Rattle.std.proofs.Common.{arith, ◌≡◌, ◌⊎◌, inl, inr, ℕ, zero, suc, ◌<◌, ◌≤◌, List, [], ◌∷◌, ◌++◌, Bool, true, false, cond, Option, None, Some, IfSome, IsTrue, refl, sym, ◌∙◌, ap, subst, append_assoc, append-nil, length}
+use Rattle.std.proofs.Common.{arith, ◌≡◌, ◌⊎◌, inl, inr, ℕ, zero, suc, ◌<◌, ◌≤◌, List, [], ◌∷◌, ◌++◌, false, cond, Option, None, Some, IfSome, IsTrue, refl, sym, ◌∙◌, ap, subst, append-nil, length}
 use Rattle.std.specs.Prelude.{filter, map, option_map, option_to_list, is_none, drop}
 use Rattle.std.specs.List.{list_any}
 use Rattle.std.proofs.lemmas.Bool.{false≢true}
@@ -8,7 +8,6 @@ use Rattle.basics.specs.Told.{told_more}
 use Rattle.outside.specs.Desk.{DeskSeen}
 use Rattle.outside.specs.Event.{read_over, got_over}
 use Rattle.outside.specs.Link.{Seen, Grew, own_events}
-use Rattle.outside.specs.declared.event.Event.{Event}
 use Rattle.outside.specs.declared.event.Event.TheVariants.{Given}
 use Rattle.outside.specs.declared.faults.Side.TheVariants as side
 use Rattle.catalog.specs.Reading.{ids_of}
@@ -31,9 +30,9 @@ use Rattle.load_rules.specs.Prefixes.{IsPrefix}
 use Rattle.sync_rules.specs.Calls.{Call}
 use Rattle.attempt_turns.specs.Acts.{Place, does, place_after}
 use Rattle.attempt_turns.specs.Ends.{CanStop, Ends, EndsSo}
-use Rattle.attempt_turns.specs.History.{Leads, Ran}
+use Rattle.attempt_turns.specs.History.{Ran}
 use Rattle.attempt_turns.proofs.EndOfOutput.{told_got, told_read}
-use Rattle.attempt_turns.specs.Worker.{ComesBack, IsOn, Live, Stands, is_error, left_to_give, source_held, untold_from}
+use Rattle.attempt_turns.specs.Worker.{ComesBack, IsOn, Live, Stands, is_error, left_to_give}
 use Rattle.attempt_turns.specs.declared.worker.Worker.{Worker}
 use Rattle.attempt_turns.proofs.Lists.{any_one, each_one, gives_one, got_over_one, read_over_one, same_gots, same_reads}
 use Rattle.attempt_turns.proofs.ReadLemmas.{not_completing}
@@ -105,24 +104,24 @@ gives_way w text old new desk held own_line opened added grew = record {
   grew = grew;
   desk = desk_same desk;
   leads = λ call streams read here said reading stands. (
-      place_after read here (Given text) (with_event (Given text) here.standing.sync),
-      (
-        with_event (Given text) here.standing.sync,
-        (may_give w streams read text here.standing.sync.attempt stands.attempt stands.runs held opened stands.on, refl),
-        subst (λ (n : ℕ). 0 < n) (sym stands.is_last.number) stands.is_last.positive,
-        record { works = stands.is_last.works; order = stands.is_last.number ∙ sym stands.is_last.ended },
-        refl,
-      ),
-      record {
-        is_last = record { begun = stands.is_last.begun; number = stands.is_last.number; positive = stands.is_last.positive; ended = stands.is_last.ended; works = stands.is_last.works };
-        attempt = and_event (Given text) stands.attempt;
-        runs = ap (option_map (and_event (Given text))) stands.runs;
-        on = gives_on w streams read stands.attempt text held own_line opened stands.on;
-        set = stands.set;
-        none_owed = stands.none_owed;
-        said_all = ap (λ list. list ++ []) stands.said_all;
-      },
-    );
+    place_after read here (Given text) (with_event (Given text) here.standing.sync),
+    (
+      with_event (Given text) here.standing.sync,
+      (may_give w streams read text here.standing.sync.attempt stands.attempt stands.runs held opened stands.on, refl),
+      subst (λ (n : ℕ). 0 < n) (sym stands.is_last.number) stands.is_last.positive,
+      record { works = stands.is_last.works; order = stands.is_last.number ∙ sym stands.is_last.ended },
+      refl,
+    ),
+    record {
+      is_last = record { begun = stands.is_last.begun; number = stands.is_last.number; positive = stands.is_last.positive; ended = stands.is_last.ended; works = stands.is_last.works };
+      attempt = and_event (Given text) stands.attempt;
+      runs = ap (option_map (and_event (Given text))) stands.runs;
+      on = gives_on w streams read stands.attempt text held own_line opened stands.on;
+      set = stands.set;
+      none_owed = stands.none_owed;
+      said_all = ap (λ list. list ++ []) stands.said_all;
+    },
+  );
 }
 
 -- ---- an offer that fails
@@ -144,12 +143,12 @@ ends_offer end w old new desk own_line live face same grew so = record {
   grew = grew;
   desk = desk_same desk;
   leads = λ call streams read here said reading stands. (
-      here,
-      refl,
-      subst (λ list. Ends end new.face w call streams read here list) (sym (append-nil said))
-      (ends_here end new.face w call streams read here said stands (so streams read stands.attempt stands.on)
-      (λ running. may_stop_by w call streams read new.face here said own_line (λ some. ap (λ (it : LinkFace). it.codes.source) face ∙ live.completed (inr some)) stands)),
-    );
+    here,
+    refl,
+    subst (λ list. Ends end new.face w call streams read here list) (sym (append-nil said))
+        (ends_here end new.face w call streams read here said stands (so streams read stands.attempt stands.on)
+        (λ running. may_stop_by w call streams read new.face here said own_line (λ some. ap (λ (it : LinkFace). it.codes.source) face ∙ live.completed (inr some)) stands)),
+  );
 }
 
 pub offer_failed : (w : Worker) (old new : Seen) (desk : DeskSeen) → w.is_completing ≡ false → Live w old → new.face ≡ old.face → own_events new ≡ own_events old → Grew old new → Ran (Stands w) (Ends status.LinkFault new.face w) old new desk desk

@@ -1,6 +1,6 @@
 -- Lists of events, one longer.
-use Rattle.std.proofs.Common.{◌≡◌, ℕ, List, [], ◌∷◌, ◌++◌, Bool, true, false, ◌||◌, Option, None, Some, refl, sym, ◌∙◌, ap, subst, append_assoc, append-nil}
-use Rattle.std.specs.Prelude.{filter, filter_map, fold, map}
+use Rattle.std.proofs.Common.{◌≡◌, ℕ, List, [], ◌∷◌, ◌++◌, Bool, false, ◌||◌, Option, None, sym, ◌∙◌, ap, subst, append_assoc, append-nil}
+use Rattle.std.specs.Prelude.{filter, filter_map}
 use Rattle.std.specs.List.{cons_option, list_any}
 use Rattle.std.proofs.lemmas.List.{map-append}
 use Rattle.std.proofs.lemmas.List.Elements.{filter-append, filter_map-append}
@@ -10,7 +10,7 @@ use Rattle.outside.specs.Event.{read_in, given_in, got_in, read_over, read_over_
 use Rattle.outside.specs.declared.event.Event.{Event}
 use Rattle.load_rules.specs.Prefixes.{EachFits}
 use Rattle.load_rules.specs.Lines.{Line, Reading, line_read, lines_read, passes}
-use Rattle.load_rules.specs.Attempts.{reads, gives, gots, passed}
+use Rattle.load_rules.specs.Attempts.{reads, gives, gots}
 use Rattle.sync_rules.specs.Sync.{texts}
 
 pub reads_one : (events : List Event) (event : Event) → reads (events ++ event ∷ []) ≡ reads events ++ filter_map read_in (event ∷ [])

@@ -1,15 +1,15 @@
 -- A line of the source is read and heard.
-use Rattle.std.proofs.Common.{arith, ◌≡◌, ◌⊎◌, inl, inr, ℕ, ◌+◌, ◌<◌, ◌≤◌, List, [], ◌∷◌, ◌++◌, Bool, true, false, cond, ◌||◌, Option, None, Some, Result, Ok, Err, refl, sym, ◌∙◌, ap, subst, append_assoc, append-nil, length, length-append, nat_lt, le-ltb}
-use Rattle.std.specs.Prelude.{filter, filter_map, map, is_some, is_none, drop, option_map, option_to_list, nat_eq}
-use Rattle.std.specs.List.{AllByRecursion, list_any}
-use Rattle.std.proofs.lemmas.List.{length-map, map-append}
+use Rattle.std.proofs.Common.{arith, ◌≡◌, ℕ, ◌+◌, ◌<◌, ◌≤◌, List, [], ◌∷◌, ◌++◌, Bool, true, false, cond, ◌||◌, Option, None, Some, Result, Ok, Err, refl, sym, ◌∙◌, ap, subst, append_assoc, append-nil, length, length-append, nat_lt, le-ltb}
+use Rattle.std.specs.Prelude.{filter, map, option_map, option_to_list, nat_eq}
+use Rattle.std.specs.List.{list_any}
+use Rattle.std.proofs.lemmas.List.{length-map}
 use Rattle.std.proofs.lemmas.Bool.{false≢true}
 use Rattle.json_fields.specs.Answer.{IsAnswer}
 use Rattle.basics.specs.declared.limits.TheConstants.{LONGEST_LINE}
 use Rattle.basics.specs.declared.stream.StreamId.{StreamId}
 use Rattle.basics.specs.Told.{told_more}
 use Rattle.outside.specs.Desk.{DeskSeen}
-use Rattle.outside.specs.Event.{read_over, got_over}
+use Rattle.outside.specs.Event.{read_over}
 use Rattle.outside.specs.Link.{Seen, Grew, own_events}
 use Rattle.outside.specs.declared.event.Event.{Event}
 use Rattle.outside.specs.declared.event.Event.TheVariants.{ReadLine}
@@ -19,19 +19,15 @@ use Rattle.outside.specs.declared.faults.Side.TheVariants as side
 use Rattle.airbyte_message.specs.Lanes.{Lane, one, all, lane_of}
 use Rattle.airbyte_message.specs.Messages.{IsMessage}
 use Rattle.airbyte_message.specs.State.{State as StateMsg}
-use Rattle.airbyte_message.specs.declared.message.Message.{Message}
-use Rattle.airbyte_message.specs.declared.message.StateKind.{StateKind}
-use Rattle.airbyte_message.specs.declared.message.StateKind.TheVariants as kind
 use Rattle.airbyte_message.specs.declared.stream_status.StreamStatus.{StreamStatus}
 use Rattle.catalog.specs.Reading.{ids_of}
 use Rattle.catalog.specs.declared.stream.ConfStream.{ConfStream}
 use Rattle.load_rules.specs.Prefixes.{IsPrefix}
-use Rattle.load_rules.specs.Lines.{Line, Reading, ReadsText, IsReading, line_read, lines_read, passes}
-use Rattle.load_rules.specs.Attempts.{gives, gots, passed, reads}
+use Rattle.load_rules.specs.Lines.{Line, Reading, ReadsText, line_read, lines_read, passes}
+use Rattle.load_rules.specs.Attempts.{gives, passed, reads}
 use Rattle.load_rules.specs.Engine.{is_closed, is_ended}
-use Rattle.state_kinds.specs.Saved.{entry_ids, has_states}
 use Rattle.sync_rules.specs.Calls.{Call}
-use Rattle.sync_rules.specs.Sync.{Running, Sync, and_event, completion, untold, with_event, texts, to_give}
+use Rattle.sync_rules.specs.Sync.{Running, and_event, completion, untold, with_event, texts, to_give}
 use Rattle.sync_rules.specs.Steps.{InAttempt, ReadsOn}
 use Rattle.sync_ledger.specs.Accounts.{account_of, lane_in}
 use Rattle.sync_ledger.specs.Judged.{Hears, heard_line, judged, judged_account, judged_count, judged_in, judged_lane, judged_status, judged_told}
@@ -51,10 +47,10 @@ use Rattle.sync_ledger.specs.declared.notes.TheConstants.{MOST_LINES}
 use Rattle.ledger_rules.specs.Ledgers.{IsLedgerOf, held_by, is_give, told_read}
 use Rattle.ledger_rules.proofs.Judges.{err_ok, ok_is, passes_on, short_told}
 use Rattle.ledger_rules.proofs.Stands.{reads_on}
-use Rattle.attempt_turns.specs.Acts.{Act, Going, does, Place, is_refused, lines_of, lines_told, lines_saying, place_after, reads_in}
+use Rattle.attempt_turns.specs.Acts.{Going, does, Place, is_refused, lines_of, lines_told, lines_saying, place_after, reads_in}
 use Rattle.attempt_turns.specs.History.{Leads, Ran}
-use Rattle.attempt_turns.specs.Heard.{GoesOn, HeardSource, HearsSource, lines_answered}
-use Rattle.attempt_turns.specs.Worker.{ComesBack, IsOn, IsLast, IsReadable, NoneEnds, SetFits, Stands, is_error, is_error_told, is_error_saying, left_to_give, source_held, untold_from}
+use Rattle.attempt_turns.specs.Heard.{GoesOn, HeardSource, lines_answered}
+use Rattle.attempt_turns.specs.Worker.{ComesBack, IsOn, IsReadable, Stands, is_error, is_error_told, is_error_saying, left_to_give, source_held, untold_from}
 use Rattle.attempt_turns.specs.declared.worker.Worker.{Worker}
 use Rattle.attempt_turns.proofs.Lists.{any_one, each_one, got_over_one, passed_one, read_over_one, reads_one, same_gives, same_gots}
 

@@ -1,10 +1,10 @@
 -- Ways go on one another.
-use Rattle.std.proofs.Common.{arith, ◌≡◌, ℕ, ◌≤◌, List, [], ◌∷◌, ◌++◌, Option, None, Some, refl, sym, ◌∙◌, ap, subst, append_assoc}
+use Rattle.std.proofs.Common.{arith, ◌≡◌, ℕ, ◌≤◌, List, [], ◌∷◌, ◌++◌, refl, sym, ◌∙◌, ap, subst, append_assoc}
 use Rattle.std.specs.List.{AllByRecursion}
 use Rattle.basics.specs.Told.{told_more}
 use Rattle.outside.proofs.ToldLaws.{told_none, told_both}
 use Rattle.outside.specs.Desk.{DeskSeen}
-use Rattle.outside.specs.Link.{Seen, Told, Grew, NoneAbove, IsBetween, own_events}
+use Rattle.outside.specs.Link.{Seen, Grew, NoneAbove, IsBetween, own_events}
 use Rattle.outside.specs.declared.event.Event.{Event}
 use Rattle.outside.specs.declared.link.LinkCounts.{LinkCounts}
 use Rattle.catalog.specs.declared.stream.ConfStream.{ConfStream}

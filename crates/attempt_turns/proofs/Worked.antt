@@ -1,10 +1,9 @@
 -- The worked ways.
-use Rattle.std.proofs.Common.{arith, ◌≡◌, ◌⊎◌, inl, inr, ℕ, ◌+◌, List, [], ◌∷◌, Bool, true, false, refl, sym, ◌∙◌}
+use Rattle.std.proofs.Common.{arith, ◌≡◌, ◌⊎◌, inl, inr, ℕ, refl}
 use Rattle.std.specs.Fmt.{digits}
 use Rattle.std.proofs.lemmas.Bool.{false≢true}
-use Rattle.outside.specs.declared.status.Status.{Status}
 use Rattle.outside.specs.declared.status.Status.TheVariants as status
-use Rattle.attempt_turns.specs.Acts.{CanEnd, EndsUnbegun, IsOpen, IsShut, Place, place_ended}
+use Rattle.attempt_turns.specs.Acts.{EndsUnbegun, IsOpen, IsShut, place_ended}
 use Rattle.attempt_turns.specs.Examples.{WaysAsWorked, going_on}
 
 one_two : (m n : ℕ) → m ≡ n → m ≡ 1 → n ≡ 2 → ⊥

@@ -6,14 +6,12 @@ use Rattle.basics.specs.declared.stream.StreamId.{StreamId}
 use Rattle.outside.specs.Desk.{DeskSeen}
 use Rattle.outside.specs.Event.{got_over}
 use Rattle.outside.specs.Link.{Seen}
-use Rattle.outside.specs.declared.event.Codes.{Codes}
 use Rattle.outside.specs.declared.event.Event.{Event}
 use Rattle.outside.specs.declared.event.Event.TheVariants as event
 use Rattle.outside.specs.declared.event.Exit.{Exit}
 use Rattle.outside.specs.declared.event.Exit.TheVariants.{Code}
 use Rattle.outside.specs.declared.faults.Breach.{Breach}
 use Rattle.outside.specs.declared.faults.Breach.TheVariants as breach
-use Rattle.outside.specs.declared.faults.CatalogFault.{CatalogFault}
 use Rattle.outside.specs.declared.faults.Side.{Side}
 use Rattle.outside.specs.declared.faults.Side.TheVariants as side
 use Rattle.outside.specs.declared.link.LinkCounts.{LinkCounts}
@@ -40,7 +38,6 @@ use Rattle.sync_rules.specs.Calls.{Call, IsThrough, OwesNothing}
 use Rattle.sync_rules.specs.Generations.{Begins}
 use Rattle.sync_rules.specs.Sync.{Running, Takes, texts}
 use Rattle.attempt_turns.specs.Acts.{Place, CanBegin}
-use Rattle.attempt_turns.specs.History.{State}
 use Rattle.attempt_turns.specs.Silence.{Waited}
 use Rattle.attempt_turns.specs.Waits.{IsFirstWaiting}
 use Rattle.attempt_turns.specs.Worker.{ComesBack, NoneEnds, is_error}

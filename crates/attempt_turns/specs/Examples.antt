@@ -6,10 +6,9 @@ use Rattle.outside.specs.declared.faults.Breach.TheVariants as breach
 use Rattle.outside.specs.declared.status.Status.{Status}
 use Rattle.outside.specs.declared.status.Status.TheVariants as status
 use Rattle.load_rules.specs.Taken.{LaneState}
-use Rattle.state_kinds.specs.Texts.{store_text}
 use Rattle.sync_rules.specs.Calls.{Standing}
-use Rattle.sync_rules.specs.Examples.{call, died, has_called, held_a, stands, state_back, taken_a, tell, written_a}
-use Rattle.attempt_turns.specs.Acts.{Act, does, ends, fails, Place, Going, attempt_line, lines_of}
+use Rattle.sync_rules.specs.Examples.{call, has_called, held_a, stands, state_back, taken_a, tell, written_a}
+use Rattle.attempt_turns.specs.Acts.{does, ends, fails, Place, Going, attempt_line, lines_of}
 
 -- behind a record and a state of `a` that were given, and the state that came back
 abbrev pub standing_at : ℕ → ℕ → Option LaneState → Standing

@@ -1,13 +1,13 @@
 -- A ledger stands for the events of its attempt.
-use Rattle.std.proofs.Common.{◌≡◌, ◌⊎◌, inl, inr, ℕ, List, [], ◌∷◌, ◌++◌, Bool, true, false, cond, ◌||◌, Option, None, Some, Result, Ok, Err, refl, sym, ◌∙◌, ap, subst, map, filter_map, is_some, option_map, append-nil, append_assoc}
-use Rattle.std.specs.List.{AllByRecursion, cons_option, list_any}
+use Rattle.std.proofs.Common.{◌≡◌, inl, inr, ℕ, List, [], ◌∷◌, ◌++◌, Bool, true, false, cond, ◌||◌, Option, None, Some, Result, Ok, Err, refl, sym, ◌∙◌, ap, subst, map, filter_map, is_some, option_map, append-nil, append_assoc}
+use Rattle.std.specs.List.{cons_option, list_any}
 use Rattle.std.proofs.lemmas.List.{map-append}
 use Rattle.std.proofs.lemmas.List.Elements.{filter_map-append}
 use Rattle.std.proofs.lemmas.Bool.{false≢true}
 use Rattle.basics.specs.declared.stream.StreamId.{StreamId}
 use Rattle.stream_index.specs.Distinct.{AreDistinct}
 use Rattle.stream_index.specs.Same.{is_same_stream}
-use Rattle.outside.specs.Event.{read_in, given_in, got_in}
+use Rattle.outside.specs.Event.{read_in}
 use Rattle.outside.specs.declared.event.Event.{Event}
 use Rattle.outside.specs.declared.event.Event.TheVariants.{ReadLine, Given, Got}
 use Rattle.outside.specs.declared.faults.Breach.{Breach}
@@ -24,7 +24,7 @@ use Rattle.airbyte_message.specs.declared.message.TraceMsg.TheVariants as trace
 use Rattle.airbyte_message.specs.declared.stream_status.StreamStatus.{StreamStatus}
 use Rattle.load_rules.specs.Prefixes.{EachFits}
 use Rattle.load_rules.specs.Lines.{Line, Reading, is_known, is_known_kind, line_read, lines_read, passes, state_in}
-use Rattle.load_rules.specs.Taken.{LaneState, of_lane as taken_lane}
+use Rattle.load_rules.specs.Taken.{of_lane as taken_lane}
 use Rattle.load_rules.specs.Attempts.{reads, none_given}
 use Rattle.state_kinds.specs.Saved.{Saved, IsSaved, has_states}
 use Rattle.state_kinds.specs.Store.{is_stream_kind, is_global_kind}
@@ -49,12 +49,11 @@ use Rattle.sync_ledger.specs.declared.told.Told.TheVariants as told
 use Rattle.sync_ledger.specs.declared.verdict.Echoed.{Echoed}
 use Rattle.sync_ledger.specs.declared.verdict.Echoed.TheVariants as echoed
 use Rattle.sync_ledger.specs.declared.verdict.Verdict.{Verdict}
-use Rattle.sync_ledger.specs.declared.verdict.Verdict.TheVariants as verdict
 use Rattle.sync_ledger.proofs.ListLemmas.{list_laws}
 use Rattle.sync_ledger.proofs.PendingLemmas.{pending_laws, own_lane, other_lane}
-use Rattle.ledger_rules.specs.Ledgers.{Holds, IsLedgerOf, IsPendingOf, IsQuiet, breach_in, form_by, held_by, is_give, state_taken, states_in, states_pending, taken_by, told_read, with_lane}
+use Rattle.ledger_rules.specs.Ledgers.{Holds, IsLedgerOf, IsPendingOf, IsQuiet, breach_in, form_by, held_by, is_give, states_in, states_pending, taken_by, told_read, with_lane}
 use Rattle.ledger_rules.specs.Laws.{LedgersStand, TakesSo}
-use Rattle.ledger_rules.proofs.Same.{Found, by_test, found_known, found_unknown}
+use Rattle.ledger_rules.proofs.Same.{by_test, found_known}
 use Rattle.ledger_rules.proofs.Judges.{count_given as count_gives, judges, lane_given as lane_gives, passes_on, short_told}
 use Rattle.sync_rules.proofs.KindLemmas.{heads, tails, some_is, some_none}
 use Rattle.ledger_rules.proofs.Waits.{lane_is, none_takes, state_takes, stranger_takes, waits_apart, waits_given, waits_on, waits_other, waits_taken, no_states}

@@ -2,7 +2,7 @@ use Rattle.std.proofs.Common.{◌∙◌, ◌+◌, ◌-◌, ◌^◌, min, ap}
 use Rattle.outside.specs.declared.link.LinkFace.{LinkFace}
 use Rattle.attempt_turns.proofs.ReadLemmas.{reads_way}
 use Rattle.attempt_turns.proofs.EndLemmas.{failed_way, lacked_way, line_cause, line_ends_way, stays_way, too_long_way}
-use Rattle.attempt_turns.proofs.EndOfOutput.{end_way, live_end, live_quiet, live_read, live_torn}
+use Rattle.attempt_turns.proofs.EndOfOutput.{end_way, live_end, live_read, live_torn}
 use Rattle.attempt_turns.proofs.source.read_source.Goals as goal
 
 -- a line
