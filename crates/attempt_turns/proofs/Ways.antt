@@ -1,10 +1,10 @@
 -- Ways go on one another.
-use Rattle.std.proofs.Common.{arith, ◌≡◌, ℕ, ◌≤◌, List, [], ◌∷◌, ◌++◌, Option, None, Some, refl, sym, ◌∙◌, ap, subst, append_assoc}
+use Rattle.std.proofs.Common.{arith, ◌≡◌, ℕ, ◌≤◌, List, [], ◌∷◌, ◌++◌, refl, sym, ◌∙◌, ap, subst, append_assoc}
 use Rattle.std.specs.List.{AllByRecursion}
 use Rattle.basics.specs.Told.{told_more}
 use Rattle.outside.proofs.ToldLaws.{told_none, told_both}
 use Rattle.outside.specs.Desk.{DeskSeen}
-use Rattle.outside.specs.Link.{Seen, Told, Grew, NoneAbove, IsBetween, own_events}
+use Rattle.outside.specs.Link.{Seen, Grew, NoneAbove, IsBetween, own_events}
 use Rattle.outside.specs.declared.event.Event.{Event}
 use Rattle.outside.specs.declared.link.LinkCounts.{LinkCounts}
 use Rattle.catalog.specs.declared.stream.ConfStream.{ConfStream}
@@ -73,6 +73,14 @@ grew_then x y z first second = record {
   timed = all_join (IsBetween x.counts y.counts) (IsBetween y.counts z.counts) (IsBetween x.counts z.counts) first.more second.more
       (λ told is. record { not_below = is.not_below; not_above = none_above told.counts y.counts z.counts is.not_above second.counts })
       (λ told is. record { not_below = none_above x.counts y.counts told.counts first.counts is.not_below; not_above = is.not_above }) first.timed second.timed;
+}
+
+pub grew_none : (seen : Seen) → Grew seen seen
+grew_none seen = record {
+  counts = record { state_faults = omega arith; link_faults = omega arith; quiet_source = omega arith; quiet_dest = omega arith; quiet_codes = omega arith; waits = omega arith };
+  more = [];
+  grew = sym (told_none seen.trace);
+  timed = tt;
 }
 
 pub desk_then : (x y z : DeskSeen) → KeepsDesk x y → KeepsDesk y z → KeepsDesk x z

@@ -112,9 +112,16 @@ pub record InOrder (here : Place) (event : Event) : Type 0 where
   pub works : here.failed ≡ false
   pub order : IsInOrder here event
 
+-- the ends of an attempt that could not be begun: its generations are spent, its set was not saved, or memory lacked
+abbrev pub EndsUnbegun : Status → Type 0
+EndsUnbegun (status.BadCatalog fault) = Unit {0}
+EndsUnbegun status.StateFault = Unit {0}
+EndsUnbegun status.NoMemory = Unit {0}
+EndsUnbegun end = ⊥
+
 -- An attempt ends that was begun, or one that could not be begun. Behind a state store that failed it ends so.
 pub record CanEnd (call : Call) (here : Place) (end : Status) : Type 0 where
-  pub one : IsOpen here ⊎ IsShut here
+  pub one : IsOpen here ⊎ (IsShut here × EndsUnbegun end)
   pub within : here.ended < call.limit
   pub failed : here.failed ≡ true → end ≡ status.StateFault
 

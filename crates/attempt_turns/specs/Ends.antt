@@ -3,16 +3,15 @@ use Rattle.std.specs.Prelude.{◌≡◌, ◌⊎◌, ℕ, ◌+◌, ◌<◌, ◌�
 use Rattle.std.specs.List.{AllByRecursion, list_any}
 use Rattle.basics.specs.Told.{Rose}
 use Rattle.basics.specs.declared.stream.StreamId.{StreamId}
+use Rattle.outside.specs.Desk.{DeskSeen}
 use Rattle.outside.specs.Event.{got_over}
 use Rattle.outside.specs.Link.{Seen}
-use Rattle.outside.specs.declared.event.Codes.{Codes}
 use Rattle.outside.specs.declared.event.Event.{Event}
 use Rattle.outside.specs.declared.event.Event.TheVariants as event
 use Rattle.outside.specs.declared.event.Exit.{Exit}
 use Rattle.outside.specs.declared.event.Exit.TheVariants.{Code}
 use Rattle.outside.specs.declared.faults.Breach.{Breach}
 use Rattle.outside.specs.declared.faults.Breach.TheVariants as breach
-use Rattle.outside.specs.declared.faults.CatalogFault.{CatalogFault}
 use Rattle.outside.specs.declared.faults.Side.{Side}
 use Rattle.outside.specs.declared.faults.Side.TheVariants as side
 use Rattle.outside.specs.declared.link.LinkCounts.{LinkCounts}
@@ -39,10 +38,11 @@ use Rattle.sync_rules.specs.Calls.{Call, IsThrough, OwesNothing}
 use Rattle.sync_rules.specs.Generations.{Begins}
 use Rattle.sync_rules.specs.Sync.{Running, Takes, texts}
 use Rattle.attempt_turns.specs.Acts.{Place, CanBegin}
-use Rattle.attempt_turns.specs.History.{State}
 use Rattle.attempt_turns.specs.Silence.{Waited}
 use Rattle.attempt_turns.specs.Waits.{IsFirstWaiting}
 use Rattle.attempt_turns.specs.Worker.{ComesBack, NoneEnds, is_error}
+use Rattle.attempt_turns.specs.declared.worker.Moved.{Moved}
+use Rattle.attempt_turns.specs.declared.worker.Moved.TheVariants as moved
 use Rattle.attempt_turns.specs.declared.worker.Worker.{Worker}
 
 -- ---- before a start
@@ -242,3 +242,16 @@ Causes (status.ConfigError from_side line) w from say now said = Unit {0}
 Causes status.TooManyLines w from say now said = Unit {0}
 Causes status.NoMemory w from say now said = Unit {0}
 Causes end w from say now said = ⊥
+
+-- Within a turn: where the link or the desk failed its count rose. (Each other end has its cause in what was read; the codes are looked
+-- at behind it.)
+abbrev pub TurnCause : Status → Seen → Seen → DeskSeen → DeskSeen → Type 0
+TurnCause status.LinkFault old new desk_old desk_new = Rose old.counts.link_faults new.counts.link_faults
+TurnCause status.SayFault old new desk_old desk_new = Rose desk_old.say_faults desk_new.say_faults
+TurnCause status.StateFault old new desk_old desk_new = Rose old.counts.state_faults new.counts.state_faults
+TurnCause end old new desk_old desk_new = Unit {0}
+
+-- a step that brought nothing was quiet: the count of the source's quiet answers rose
+abbrev pub WasQuiet : Moved → Seen → Seen → Type 0
+WasQuiet moved.Yes old new = Unit {0}
+WasQuiet moved.No old new = Rose old.counts.quiet_source new.counts.quiet_source

@@ -1,5 +1,5 @@
 -- What is done with a line that was read, and why it ends an attempt.
-use Rattle.std.specs.Prelude.{◌≡◌, ℕ, ◌+◌, ◌≤◌, List, [], ◌∷◌}
+use Rattle.std.specs.Prelude.{◌≡◌, ℕ, ◌+◌, ◌<◌, ◌≤◌, List, [], ◌∷◌}
 use Rattle.basics.specs.Told.{told_more, Rose, GrewByFront}
 use Rattle.outside.specs.Desk.{DeskSeen}
 use Rattle.outside.specs.declared.faults.Side.TheVariants as side
@@ -38,6 +38,7 @@ lines_answered verdict.Nothing = []
 lines_answered (verdict.ConfigError line) = line ∷ []
 
 pub record HearsSource (w : Worker) (text : List ℕ) (answer : Verdict) (now : Worker) : Type 0 where
+  pub few : w.ledger.lines < MOST_LINES
   pub hears : Hears w.ledger text answer now.ledger
   pub is : now ≡ record w { ledger = now.ledger; held = held_by answer text }
 
@@ -72,5 +73,5 @@ LineEnds (status.SourceBreach why line) w text now old new = Refuses w.ledger te
 LineEnds status.TooManyLines w text now old new = (MOST_LINES ≤ w.ledger.lines) × (now ≡ w) × SaysLines [] old new
 LineEnds (status.ConfigError side.Source line) w text now old new = (words : List ℕ) × HearsSource w text (verdict.ConfigError words) now × (line ≡ now.ledger.lines) × SaysLines (words ∷ []) old new
 LineEnds status.SayFault w text now old new = HalfSaid w text now old new
-LineEnds status.NoMemory w text now old new = SaysLines [] old new
+LineEnds status.NoMemory w text now old new = (now.number ≡ w.number) × SaysLines [] old new
 LineEnds end w text now old new = ⊥

@@ -1,5 +1,5 @@
 -- How ways of a worker go on.
-use Rattle.std.specs.Prelude.{ℕ, List, ◌++◌}
+use Rattle.std.specs.Prelude.{List, ◌++◌}
 use Rattle.outside.specs.declared.event.Event.{Event}
 use Rattle.catalog.specs.declared.stream.ConfStream.{ConfStream}
 use Rattle.load_rules.specs.Lines.{Reading}

@@ -6,3 +6,4 @@ pub mod Waits
 pub mod Ends
 pub mod Heard
 pub mod Laws
+pub mod Examples

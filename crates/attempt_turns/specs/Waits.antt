@@ -1,8 +1,7 @@
 -- Which given state is the first that was neither taken nor passed over, by its line of the source.
-use Rattle.std.specs.Prelude.{◌≡◌, ℕ, ◌+◌, ◌≤◌, List, [], filter, take, slice_get, Option, None, Some, Contains}
+use Rattle.std.specs.Prelude.{◌≡◌, ℕ, ◌+◌, ◌≤◌, List, filter, take, slice_get, Option, None, Some, Contains}
 use Rattle.basics.specs.declared.stream.StreamId.{StreamId}
 use Rattle.outside.specs.declared.event.Event.{Event}
-use Rattle.airbyte_message.specs.Lanes.{Lane}
 use Rattle.load_rules.specs.Lines.{Reading, lines_read, passes, state_in}
 use Rattle.load_rules.specs.Taken.{LaneState}
 use Rattle.load_rules.specs.Attempts.{reads, Waiting, none_given, LeavesAll}

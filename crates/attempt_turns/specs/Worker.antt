@@ -15,7 +15,7 @@ use Rattle.airbyte_message.specs.Messages.{IsMessage}
 use Rattle.airbyte_message.specs.State.{State as StateMsg}
 use Rattle.catalog.specs.Reading.{ids_of}
 use Rattle.catalog.specs.declared.stream.ConfStream.{ConfStream}
-use Rattle.load_rules.specs.Prefixes.{EachFits, IsPrefix}
+use Rattle.load_rules.specs.Prefixes.{EachFits}
 use Rattle.load_rules.specs.Lines.{Reading, lines_read, state_in}
 use Rattle.load_rules.specs.Taken.{LaneState, states}
 use Rattle.load_rules.specs.Finished.{last_status}
@@ -31,6 +31,7 @@ use Rattle.sync_rules.specs.Steps.{Step}
 use Rattle.sync_rules.specs.Sync.{Running, Sync, Takes, completion, texts, to_give}
 use Rattle.sync_ledger.specs.Told.{told_of}
 use Rattle.sync_ledger.specs.declared.form.StateForm.TheVariants as form
+use Rattle.sync_ledger.specs.declared.notes.TheConstants.{MOST_LINES}
 use Rattle.sync_ledger.specs.declared.said.Saying.{Saying}
 use Rattle.sync_ledger.specs.declared.said.Saying.TheVariants as saying
 use Rattle.sync_ledger.specs.declared.told.Told.{Told}
@@ -112,11 +113,12 @@ pub record IsOn (w : Worker) (streams : List ConfStream) (read : Reading) (own :
   pub closed_behind : w.closed ≡ true → ClosedBehind own.events
   pub read_so : read_over own.events ≡ w.read_over
   pub got_so : got_over own.events ≡ w.got_over
+  pub few_lines : length (reads own.events) ≤ MOST_LINES
   pub got_lines : w.got_lines ≡ length (gots own.events)
   pub gives_next : to_give (ids_of streams) read own.events ≡ (gives own.events ++ option_to_list w.held) ++ left_to_give w (ids_of streams) read own.events
-  -- completions are made behind the end of the output; before the first of them all that was given was read
+  -- completions are made behind the end of the output; before the first of them what was given and what is held are all that is passed on
   pub reads_first : w.read_over ≡ false → (w.is_completing ≡ false) × (w.completed ≡ 0)
-  pub own_lines : w.is_completing ≡ false → w.completed ≡ 0 → IsPrefix (gives own.events) (texts (passed (ids_of streams) read own.events))
+  pub own_lines : w.is_completing ≡ false → w.completed ≡ 0 → texts (passed (ids_of streams) read own.events) ≡ gives own.events ++ option_to_list w.held
 
 -- the attempt is the call's last: so many were begun, and all before it have ended
 pub record IsLast (w : Worker) (here : Place) : Type 0 where
@@ -173,7 +175,7 @@ HasToSay line Then call streams read here said = (here.asked ≡ said ++ line �
 -- What holds of the link between two lines: it runs, its input is open until the worker closes it, its told trace has ended as the worker
 -- knows, no line was too long at the last poll; a completion is made only where the source is known to have ended with code 0, and the
 -- input is closed then only behind the last.
-pub record Live (w : Worker) (streams : ℕ) (seen : Seen) : Type 0 where
+pub record Live (w : Worker) (seen : Seen) : Type 0 where
   pub running : IsTrue seen.face.running
   pub input_open : w.closed ≡ false → IsTrue seen.face.input_open
   pub read_told : IfSome (own_events seen) (λ events. read_over events ≡ w.read_over)
@@ -181,4 +183,10 @@ pub record Live (w : Worker) (streams : ℕ) (seen : Seen) : Type 0 where
   pub source_short : ¬ (seen.face.source_poll ≡ kind.TooLong)
   pub dest_short : ¬ (seen.face.dest_poll ≡ kind.TooLong)
   pub completed : (w.is_completing ≡ true) ⊎ (0 < w.completed) → seen.face.codes.source ≡ Some (Code 0)
-  pub all_completed : w.closed ≡ true → seen.face.codes.source ≡ Some (Code 0) → (w.held ≡ None) × (streams ≤ w.completed)
+  pub all_completed : w.closed ≡ true → seen.face.codes.source ≡ Some (Code 0) → (w.held ≡ None) × (length w.ledger.ids ≤ w.completed)
+
+-- the source may be polled: no line is held, and neither its output has ended nor the destination's input
+pub record IsReadable (w : Worker) : Type 0 where
+  pub empty : w.held ≡ None
+  pub going : w.read_over ≡ false
+  pub opened : w.closed ≡ false

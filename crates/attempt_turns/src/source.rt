@@ -1,10 +1,13 @@
 // The source's side of a turn.
 ghost use Rattle.std.specs.Prelude.{◌≡◌, None, IfErr, IfOk, OnErr, OnOk};
+ghost use Rattle.attempt_turns.specs.Ends.{Ends, TurnCause, WasQuiet};
 ghost use Rattle.attempt_turns.specs.Heard.{HeardSource, HearsSource, LineEnds, RefusedSource};
+ghost use Rattle.attempt_turns.specs.History.{Ran};
+ghost use Rattle.attempt_turns.specs.Worker.{IsReadable, Live, Stands};
 
-use crate::{Worker, say_line};
+use crate::{Moved, Worker, say_line};
 use basics::Bytes;
-use outside::{Desk, Side, Status};
+use outside::{Breach, Desk, Link, Polled, Side, Status};
 use sync_ledger::{LedgerFault, MOST_LINES, Verdict};
 
 // What is to be done with a line that was read. It is held where it is to be given.
@@ -51,5 +54,42 @@ fn take_read<K: Desk>(desk: &mut K, w: &mut Worker, line: Bytes) -> Result<(), S
             })
         }
         Err(end) => Err(end),
+    }
+}
+
+/// Polls the source once. Where it gives a line, that is heard and, where it is to be given, held.
+pub fn read_source<K: Desk, L: Link>(
+    desk: &mut K,
+    link: &mut L,
+    w: &mut Worker,
+) -> Result<Moved, Status>
+    requires readable { IsReadable w.old }
+    requires live { Live w.old (L.seen link.old) }
+    ensures ok { OnOk result (Ran (Stands w.old) (Stands w.new) (L.seen link.old) (L.seen link.new) (K.seen desk.old) (K.seen desk.new)) }
+    ensures live { OnOk result (Live w.new (L.seen link.new)) }
+    ensures err { IfErr result (λ end. Ran (Stands w.old) (Ends end (L.seen link.new).face w.new) (L.seen link.old) (L.seen link.new) (K.seen desk.old) (K.seen desk.new)) }
+    ensures cause { IfErr result (λ end. TurnCause end (L.seen link.old) (L.seen link.new) (K.seen desk.old) (K.seen desk.new)) }
+    ensures quiet { IfOk result (λ moved. WasQuiet moved (L.seen link.old) (L.seen link.new)) }
+{
+    match link.poll_source() {
+        Polled::Line(line) => match take_read(desk, w, line) {
+            Ok(()) => Ok(Moved::Yes),
+            Err(end) => Err(end),
+        },
+        Polled::Torn(line) => match take_read(desk, w, line) {
+            Ok(()) => Ok(Moved::Yes),
+            Err(end) => Err(end),
+        },
+        Polled::TooLong => Err(Status::SourceBreach {
+            breach: Breach::TooLong,
+            line: w.ledger.lines().saturating_add(1),
+        }),
+        Polled::NotYet => Ok(Moved::No),
+        Polled::End => {
+            w.read_over = true;
+            Ok(Moved::Yes)
+        }
+        Polled::Failed => Err(Status::LinkFault),
+        Polled::NoMemory => Err(Status::NoMemory),
     }
 }

@@ -1,6 +1,5 @@
 -- A ledger refuses exactly the breaches, and has those lines given that are passed on.
-use Rattle.std.proofs.Common.{◌≡◌, ◌⊎◌, inl, inr, ℕ, List, [], ◌∷◌, ◌++◌, Bool, true, false, cond, Option, None, Some, Result, Ok, Err, refl, sym, ◌∙◌, ap, subst, map, nat_lt, nat_eq, length, is_some, option_map}
-use Rattle.std.specs.List.{list_any}
+use Rattle.std.proofs.Common.{◌≡◌, ℕ, List, [], Bool, true, false, cond, Option, None, Some, Result, Ok, Err, refl, sym, ◌∙◌, ap, map, nat_lt, nat_eq, length, is_some, option_map}
 use Rattle.std.proofs.lemmas.Bool.{false≢true}
 use Rattle.basics.specs.declared.limits.TheConstants.{LONGEST_LINE}
 use Rattle.basics.specs.declared.stream.StreamId.{StreamId}
@@ -8,7 +7,7 @@ use Rattle.outside.specs.declared.faults.Breach.{Breach}
 use Rattle.outside.specs.declared.faults.Breach.TheVariants as breach
 use Rattle.outside.specs.declared.faults.Side.TheVariants as side
 use Rattle.outside.specs.declared.event.Event.{Event}
-use Rattle.airbyte_message.specs.Lanes.{Lane, one, all, lane_of}
+use Rattle.airbyte_message.specs.Lanes.{one, all, lane_of}
 use Rattle.airbyte_message.specs.State.{State}
 use Rattle.airbyte_message.specs.declared.message.Message.{Message}
 use Rattle.airbyte_message.specs.declared.message.Message.TheVariants as message
@@ -21,13 +20,12 @@ use Rattle.load_rules.specs.Taken.{since}
 use Rattle.load_rules.specs.Attempts.{reads}
 use Rattle.state_kinds.specs.Saved.{Saved, IsSaved, has_states}
 use Rattle.sync_rules.specs.Breaches.{breach_of, breach_of_message, breach_of_state, has_global_state, has_stream_state, miscount}
-use Rattle.sync_rules.proofs.KindLemmas.{Apart, apart_along, apart_none, some_none}
+use Rattle.sync_rules.proofs.KindLemmas.{Apart, apart_along, apart_none}
 use Rattle.sync_ledger.specs.Accounts.{account_of, lane_in}
 use Rattle.sync_ledger.specs.Judged.{judged, judged_account, judged_count, judged_in, judged_lane, judged_status, judged_told}
 use Rattle.sync_ledger.specs.Lists.{IsAccountOf}
 use Rattle.sync_ledger.specs.Noted.{Noted, is_other_form}
 use Rattle.sync_ledger.specs.Told.{told_of, verdict_of}
-use Rattle.sync_ledger.specs.declared.accounts.Account.{Account}
 use Rattle.sync_ledger.specs.declared.accounts.LaneAccount.{LaneAccount}
 use Rattle.sync_ledger.specs.declared.form.StateForm.TheVariants as form
 use Rattle.sync_ledger.specs.declared.said.Saying.{Saying}
@@ -147,13 +145,13 @@ judges ids start read events line noted text saved ledger =
 
 -- ---- what is given
 
-err_ok : {A E : Type 0} {e : E} {a : A} → Err e ≡ Ok a → ⊥
+pub err_ok : {A E : Type 0} {e : E} {a : A} → Err e ≡ Ok a → ⊥
 err_ok h = cc
 
 abbrev pub ok_verdict : Verdict → Result Verdict Breach
 ok_verdict answer = Ok answer
 
-ok_is : {a b : Verdict} → ok_verdict a ≡ ok_verdict b → a ≡ b
+pub ok_is : {a b : Verdict} → ok_verdict a ≡ ok_verdict b → a ≡ b
 ok_is h = cc
 
 pub short_told : (noted : Noted) (text : List ℕ) (told_is : Result Verdict Breach) (answer : Verdict) → cond (nat_lt LONGEST_LINE (length text)) (Err breach.TooLong) told_is ≡ Ok answer → told_is ≡ Ok answer

@@ -1,6 +1,5 @@
 -- Words of ledgers and of attempts that mean the same.
-use Rattle.std.proofs.Common.{◌≡◌, ◌⊎◌, inl, inr, ℕ, ◌+◌, List, [], ◌∷◌, ◌++◌, Bool, true, false, cond, ◌||◌, ◌&&◌, Option, None, Some, refl, sym, ◌∙◌, ap, subst, map, fold, filter, is_some, option_map}
-use Rattle.std.specs.List.{list_any}
+use Rattle.std.proofs.Common.{◌≡◌, ℕ, ◌+◌, List, [], ◌∷◌, Bool, true, false, cond, ◌||◌, ◌&&◌, Option, None, Some, refl, sym, ◌∙◌, ap, subst, map, fold}
 use Rattle.std.specs.Str.{bytes_eq}
 use Rattle.std.proofs.lemmas.Bool.{false≢true}
 use Rattle.basics.specs.declared.stream.StreamId.{StreamId}
@@ -9,19 +8,17 @@ use Rattle.stream_index.proofs.IndexLemmas.{Decides-stream}
 use Rattle.outside.specs.Tables.{same_id, same_namespace}
 use Rattle.outside.specs.declared.faults.Side.TheVariants as side
 use Rattle.airbyte_message.specs.Lanes.{Lane, one, all, lane_of}
-use Rattle.airbyte_message.specs.State.{State}
 use Rattle.airbyte_message.specs.declared.message.Message.{Message}
 use Rattle.airbyte_message.specs.declared.message.Message.TheVariants as message
 use Rattle.airbyte_message.specs.declared.message.TraceMsg.{TraceMsg}
 use Rattle.airbyte_message.specs.declared.message.TraceMsg.TheVariants as trace
-use Rattle.load_rules.specs.Lines.{Line, Reading, is_known, lines_read, record_in, state_in}
+use Rattle.load_rules.specs.Lines.{Reading, is_known, lines_read, record_in, state_in}
 use Rattle.load_rules.specs.Taken.{covers, counts_record, counts_state, is_of_lane, is_same_lane, since}
-use Rattle.sync_ledger.specs.Accounts.{account_of, lane_in, AllAccounts}
+use Rattle.sync_ledger.specs.Accounts.{account_of}
 use Rattle.sync_ledger.specs.Lists.{AllStreams, IsAccountOf, is_lane, covers_stream, since_after}
 use Rattle.sync_ledger.specs.Lists as lists
 use Rattle.sync_ledger.specs.Told.{told_of}
 use Rattle.sync_ledger.specs.declared.accounts.Account.{Account}
-use Rattle.sync_ledger.specs.declared.told.Told.{Told}
 use Rattle.ledger_rules.specs.Ledgers.{told_read}
 
 -- ---- streams and lanes

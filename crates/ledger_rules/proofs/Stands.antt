@@ -1,13 +1,13 @@
 -- A ledger stands for the events of its attempt.
-use Rattle.std.proofs.Common.{◌≡◌, ◌⊎◌, inl, inr, ℕ, List, [], ◌∷◌, ◌++◌, Bool, true, false, cond, ◌||◌, Option, None, Some, Result, Ok, Err, refl, sym, ◌∙◌, ap, subst, map, filter_map, is_some, option_map, append-nil, append_assoc}
-use Rattle.std.specs.List.{AllByRecursion, cons_option, list_any}
+use Rattle.std.proofs.Common.{◌≡◌, inl, inr, ℕ, List, [], ◌∷◌, ◌++◌, Bool, true, false, cond, ◌||◌, Option, None, Some, Result, Ok, Err, refl, sym, ◌∙◌, ap, subst, map, filter_map, is_some, option_map, append-nil, append_assoc}
+use Rattle.std.specs.List.{cons_option, list_any}
 use Rattle.std.proofs.lemmas.List.{map-append}
 use Rattle.std.proofs.lemmas.List.Elements.{filter_map-append}
 use Rattle.std.proofs.lemmas.Bool.{false≢true}
 use Rattle.basics.specs.declared.stream.StreamId.{StreamId}
 use Rattle.stream_index.specs.Distinct.{AreDistinct}
 use Rattle.stream_index.specs.Same.{is_same_stream}
-use Rattle.outside.specs.Event.{read_in, given_in, got_in}
+use Rattle.outside.specs.Event.{read_in}
 use Rattle.outside.specs.declared.event.Event.{Event}
 use Rattle.outside.specs.declared.event.Event.TheVariants.{ReadLine, Given, Got}
 use Rattle.outside.specs.declared.faults.Breach.{Breach}
@@ -24,7 +24,7 @@ use Rattle.airbyte_message.specs.declared.message.TraceMsg.TheVariants as trace
 use Rattle.airbyte_message.specs.declared.stream_status.StreamStatus.{StreamStatus}
 use Rattle.load_rules.specs.Prefixes.{EachFits}
 use Rattle.load_rules.specs.Lines.{Line, Reading, is_known, is_known_kind, line_read, lines_read, passes, state_in}
-use Rattle.load_rules.specs.Taken.{LaneState, of_lane as taken_lane}
+use Rattle.load_rules.specs.Taken.{of_lane as taken_lane}
 use Rattle.load_rules.specs.Attempts.{reads, none_given}
 use Rattle.state_kinds.specs.Saved.{Saved, IsSaved, has_states}
 use Rattle.state_kinds.specs.Store.{is_stream_kind, is_global_kind}
@@ -49,12 +49,11 @@ use Rattle.sync_ledger.specs.declared.told.Told.TheVariants as told
 use Rattle.sync_ledger.specs.declared.verdict.Echoed.{Echoed}
 use Rattle.sync_ledger.specs.declared.verdict.Echoed.TheVariants as echoed
 use Rattle.sync_ledger.specs.declared.verdict.Verdict.{Verdict}
-use Rattle.sync_ledger.specs.declared.verdict.Verdict.TheVariants as verdict
 use Rattle.sync_ledger.proofs.ListLemmas.{list_laws}
 use Rattle.sync_ledger.proofs.PendingLemmas.{pending_laws, own_lane, other_lane}
-use Rattle.ledger_rules.specs.Ledgers.{Holds, IsLedgerOf, IsPendingOf, IsQuiet, breach_in, form_by, held_by, is_give, state_taken, states_in, states_pending, taken_by, told_read, with_lane}
+use Rattle.ledger_rules.specs.Ledgers.{Holds, IsLedgerOf, IsPendingOf, IsQuiet, breach_in, form_by, held_by, is_give, states_in, states_pending, taken_by, told_read, with_lane}
 use Rattle.ledger_rules.specs.Laws.{LedgersStand, TakesSo}
-use Rattle.ledger_rules.proofs.Same.{Found, by_test, found_known, found_unknown}
+use Rattle.ledger_rules.proofs.Same.{by_test, found_known}
 use Rattle.ledger_rules.proofs.Judges.{count_given as count_gives, judges, lane_given as lane_gives, passes_on, short_told}
 use Rattle.sync_rules.proofs.KindLemmas.{heads, tails, some_is, some_none}
 use Rattle.ledger_rules.proofs.Waits.{lane_is, none_takes, state_takes, stranger_takes, waits_apart, waits_given, waits_on, waits_other, waits_taken, no_states}
@@ -122,7 +121,7 @@ same_reads ids start read events line noted now event next none ids_same form_sa
       waits = waits;
     }
 
-goes_on : (ids : List StreamId) (start : Saved) (read : Reading) (events : List Event) (line : Option (List ℕ)) (noted : Noted) (event : Event) → IsQuiet event → IsLedgerOf ids start read events line noted → IsLedgerOf ids start read (events ++ event ∷ []) line noted
+pub goes_on : (ids : List StreamId) (start : Saved) (read : Reading) (events : List Event) (line : Option (List ℕ)) (noted : Noted) (event : Event) → IsQuiet event → IsLedgerOf ids start read events line noted → IsLedgerOf ids start read (events ++ event ∷ []) line noted
 goes_on ids start read events line noted event quiet ledger =
     same_reads ids start read events line noted noted event line quiet.none_read refl refl ledger.heard ledger.holds
     (λ lane. waits_on read events lane event (pending_in noted lane) (pending_in noted lane) quiet.none_given quiet.none_got refl (ledger.waits lane)) ledger
@@ -287,7 +286,7 @@ holds_next ids read noted text answer gives_it is are = by_test (is_give answer)
     (λ given. subst (λ b. Holds ids read (cond b (Some text) None) (heard_line noted text (read text)).held) (sym given) (sym gives_it ∙ given, are))
     (λ kept. subst (λ b. Holds ids read (cond b (Some text) None) (heard_line noted text (read text)).held) (sym kept) (none_pending (heard_line noted text (read text)).held (are ∙ not_given_none ids noted text (read text) answer kept is)))
 
-reads_on : (ids : List StreamId) (start : Saved) (read : Reading) (events : List Event) (noted : Noted) (text : List ℕ) (answer : Verdict) → AreDistinct ids → IsSaved start → IsLedgerOf ids start read events None noted → judged noted text (read text) ≡ Ok answer
+pub reads_on : (ids : List StreamId) (start : Saved) (read : Reading) (events : List Event) (noted : Noted) (text : List ℕ) (answer : Verdict) → AreDistinct ids → IsSaved start → IsLedgerOf ids start read events None noted → judged noted text (read text) ≡ Ok answer
     → IsLedgerOf ids start read (events ++ ReadLine text ∷ []) (held_by answer text) (heard_line noted text (read text))
 reads_on ids start read events noted text answer distinct saved ledger is =
     let now = heard_line noted text (read text) in
@@ -386,12 +385,12 @@ given_pending ids start read events line noted text lane ledger passed are =
     (λ known. pending_laws.gives noted lane known single)
     (λ unknown. given_unknown ids start read events line noted noted.held text lane ledger passed are single unknown)
 
-gives : (ids : List StreamId) (start : Saved) (read : Reading) (events : List Event) (noted : Noted) (text : List ℕ) → IsLedgerOf ids start read events (Some text) noted → IsLedgerOf ids start read (events ++ Given text ∷ []) None (gave noted)
+pub gives : (ids : List StreamId) (start : Saved) (read : Reading) (events : List Event) (noted : Noted) (text : List ℕ) → IsLedgerOf ids start read events (Some text) noted → IsLedgerOf ids start read (events ++ Given text ∷ []) None (gave noted)
 gives ids start read events noted text ledger =
     same_reads ids start read events (Some text) noted (gave noted) (Given text) None refl refl refl (list_laws.gives (saved_form start) (map (told_read read) (reads events)) noted ledger.heard) refl
     (λ lane. waits_given read events lane text (pending_in noted lane) noted.held (pending_in (gave noted) lane) ledger.holds.1 (given_pending ids start read events (Some text) noted text lane ledger ledger.holds.0 ledger.holds.1) (ledger.waits lane)) ledger
 
-completes : (ids : List StreamId) (start : Saved) (read : Reading) (events : List Event) (noted : Noted) (text : List ℕ) → state_in (read text) ≡ None → IsLedgerOf ids start read events None noted → IsLedgerOf ids start read (events ++ Given text ∷ []) None noted
+pub completes : (ids : List StreamId) (start : Saved) (read : Reading) (events : List Event) (noted : Noted) (text : List ℕ) → state_in (read text) ≡ None → IsLedgerOf ids start read events None noted → IsLedgerOf ids start read (events ++ Given text ∷ []) None noted
 completes ids start read events noted text none ledger =
     same_reads ids start read events None noted noted (Given text) None refl refl refl ledger.heard ledger.holds
     (λ lane. waits_given read events lane text (pending_in noted lane) [] (pending_in noted lane) (sym (ap states_in none)) (sym (append-nil (pending_in noted lane))) (ledger.waits lane)) ledger
@@ -478,7 +477,7 @@ got_state ids start read events line noted now text got taken found back ledger 
         other differs = waits_apart read events lane back.lane text got (pending_in noted lane) (pending_of (lane_in noted.ids (with_lane_account noted.ids noted.accounts back.lane (left_pending back.left)) lane)) found back.of_lane differs
             (ap pending_of (other_lane noted.ids noted.accounts back.lane lane (left_pending back.left) differs)) (ledger.waits lane)
 
-gets : (ids : List StreamId) (start : Saved) (read : Reading) (events : List Event) (line : Option (List ℕ)) (noted now : Noted) (text : List ℕ) (answer : Echoed) → IsLedgerOf ids start read events line noted
+pub gets : (ids : List StreamId) (start : Saved) (read : Reading) (events : List Event) (line : Option (List ℕ)) (noted now : Noted) (text : List ℕ) (answer : Echoed) → IsLedgerOf ids start read events line noted
     → IsEchoed noted (told_of side.Dest text (read text)) answer now → IsLedgerOf ids start read (events ++ Got text ∷ []) line now
 gets ids start read events line noted now text answer ledger is = at (told_of side.Dest text (read text)) answer refl is
   where
@@ -499,7 +498,7 @@ said_none (saying.Say words) = refl
 said_none saying.Nothing = refl
 said_none (saying.ConfigError words) = refl
 
-takes : (ids : List StreamId) (start : Saved) (read : Reading) (events : List Event) (line : Option (List ℕ)) (noted now : Noted) (text : List ℕ) (answer : Echoed) → IsLedgerOf ids start read events line noted
+pub takes : (ids : List StreamId) (start : Saved) (read : Reading) (events : List Event) (line : Option (List ℕ)) (noted now : Noted) (text : List ℕ) (answer : Echoed) → IsLedgerOf ids start read events line noted
     → IsEchoed noted (told_of side.Dest text (read text)) answer now → TakesSo read events text answer
 takes ids start read events line noted now text answer ledger is = at (told_of side.Dest text (read text)) answer refl is
   where
@@ -517,7 +516,7 @@ takes ids start read events line noted now text answer ledger is = at (told_of s
     at (told.Status id status) reply same back = none (told.Status id status) reply same tt (ap taken_by back.0)
     at (told.Other saying) reply same back = none (told.Other saying) reply same tt (ap taken_by back.0 ∙ said_none saying)
 
-refuses : (ids : List StreamId) (start : Saved) (read : Reading) (events : List Event) (line : Option (List ℕ)) (noted : Noted) (text : List ℕ) (why : Breach) → IsLedgerOf ids start read events line noted
+pub refuses : (ids : List StreamId) (start : Saved) (read : Reading) (events : List Event) (line : Option (List ℕ)) (noted : Noted) (text : List ℕ) (why : Breach) → IsLedgerOf ids start read events line noted
     → IsRefused noted (told_of side.Dest text (read text)) why → Takes read events text None
 refuses ids start read events line noted text why ledger is = at (told_of side.Dest text (read text)) why refl is
   where

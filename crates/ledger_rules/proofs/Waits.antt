@@ -1,10 +1,8 @@
 -- What is pending in a lane of a ledger is what waits in it.
-use Rattle.std.proofs.Common.{◌≡◌, ◌⊎◌, inl, inr, ℕ, List, [], ◌∷◌, ◌++◌, Bool, true, false, cond, Option, None, Some, refl, sym, ◌∙◌, ap, subst, map, filter, is_some, option_map, append-nil}
+use Rattle.std.proofs.Common.{◌≡◌, inr, ℕ, List, [], ◌∷◌, ◌++◌, Bool, true, false, cond, Option, None, Some, refl, sym, ◌∙◌, ap, subst, filter}
 use Rattle.std.specs.List.{AllByRecursion}
 use Rattle.std.proofs.lemmas.List.{map-append}
 use Rattle.std.proofs.lemmas.Bool.{false≢true}
-use Rattle.basics.specs.declared.stream.StreamId.{StreamId}
-use Rattle.stream_index.specs.Same.{is_same_stream}
 use Rattle.stream_index.proofs.IndexLemmas.{Decides-stream}
 use Rattle.outside.specs.Event.{given_in, got_in}
 use Rattle.outside.specs.declared.event.Event.{Event}
@@ -12,8 +10,6 @@ use Rattle.outside.specs.declared.event.Event.TheVariants.{Opened, Took, TookEnd
 use Rattle.airbyte_message.specs.Lanes.{Lane, one, all, lane_of}
 use Rattle.airbyte_message.specs.Same.{Same}
 use Rattle.airbyte_message.specs.State.{State}
-use Rattle.airbyte_message.specs.declared.message.Message.{Message}
-use Rattle.airbyte_message.specs.declared.message.Message.TheVariants as message
 use Rattle.load_rules.specs.Lines.{Line, Reading, line_read, state_in}
 use Rattle.load_rules.specs.Taken.{LaneState, is_same_lane, of_lane, state_of, state_of_lane, states}
 use Rattle.load_rules.specs.Attempts.{Waiting, none_given, with_given, StateLeaves, LineLeaves, Leaves, LeavesAll, TakesState}
@@ -25,8 +21,8 @@ use Rattle.sync_ledger.specs.Lists.{is_lane}
 use Rattle.sync_ledger.specs.PendingLists.{of_lane as pending_of_lane}
 use Rattle.sync_ledger.specs.Takes.{DiffersFrom, TakesFirst}
 use Rattle.sync_ledger.specs.declared.pending.Pending.{Pending}
-use Rattle.ledger_rules.specs.Ledgers.{IsPendingOf, IsQuiet, states_in, states_pending, states_waiting, with_lane}
-use Rattle.ledger_rules.proofs.Same.{by_test, same_lanes}
+use Rattle.ledger_rules.specs.Ledgers.{IsPendingOf, states_in, states_pending, states_waiting, with_lane}
+use Rattle.ledger_rules.proofs.Same.{same_lanes}
 
 -- ---- one more event
 

@@ -1,5 +1,5 @@
 -- Ledgers stand for the events of their attempts.
-use Rattle.std.specs.Prelude.{◌≡◌, ℕ, List, [], ◌∷◌, ◌++◌, true, false, is_some, Option, None, Some, Ok}
+use Rattle.std.specs.Prelude.{◌≡◌, ℕ, List, [], ◌∷◌, ◌++◌, Option, None, Some, Ok}
 use Rattle.basics.specs.declared.stream.StreamId.{StreamId}
 use Rattle.stream_index.specs.Distinct.{AreDistinct}
 use Rattle.outside.specs.declared.event.Event.{Event}

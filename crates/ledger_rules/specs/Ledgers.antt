@@ -1,5 +1,5 @@
 -- What a ledger knows, by the events of its attempt.
-use Rattle.std.specs.Prelude.{◌≡◌, ℕ, List, [], ◌∷◌, map, filter_map, Bool, true, false, option_map, if◌then◌else◌, Option, None, Some, Result, Ok, Err}
+use Rattle.std.specs.Prelude.{◌≡◌, ℕ, List, [], ◌∷◌, map, Bool, true, false, option_map, if◌then◌else◌, Option, None, Some, Result, Ok, Err}
 use Rattle.basics.specs.declared.stream.StreamId.{StreamId}
 use Rattle.outside.specs.Event.{read_in, given_in, got_in}
 use Rattle.outside.specs.declared.event.Event.{Event}

@@ -1,7 +1,7 @@
 -- The saved set can be written, so the store's text reads as it.
 use Rattle.std.proofs.Common.{arith, ◌≡◌, ◌⊎◌, inl, inr, ℕ, ◌≤◌, List, [], ◌∷◌, ◌++◌, Bool, true, false, cond, Option, None, Some, refl, sym, ◌∙◌, ap, subst, ltb-false}
 use Rattle.std.specs.Prelude.{map, filter_map, nat_lt, option_map, unwrap_or, Ok}
-use Rattle.std.specs.List.{AllByRecursion, zip}
+use Rattle.std.specs.List.{AllByRecursion}
 use Rattle.std.proofs.lemmas.List.{append-nil}
 use Rattle.json_fields.specs.Answer.{IsAnswer, IsOnly}
 use Rattle.basics.specs.declared.limits.TheConstants.{GREATEST_GENERATION}
@@ -26,9 +26,8 @@ use Rattle.load_rules.specs.Lines.{Reading, ReadsEvent, ReadsText, IsReading, li
 use Rattle.load_rules.specs.Taken.{LaneState}
 use Rattle.load_rules.specs.Attempts.{gives}
 use Rattle.state_kinds.specs.Saved.{Saved as Set, nothing_saved}
-use Rattle.state_kinds.specs.Changes.{begun, given_of}
+use Rattle.state_kinds.specs.Changes.{given_of}
 use Rattle.state_kinds.specs.Store.{ReadsStore}
-use Rattle.state_kinds.specs.Texts.{store_text}
 use Rattle.state_kinds.specs.Writable.{IsWritable, IsWritableGiven, IsWritableState}
 use Rattle.state_kinds.proofs.BackLemmas.{sets_back}
 use Rattle.state_kinds.proofs.StayLemmas.{pair_ids, sets_stay}
@@ -40,7 +39,7 @@ use Rattle.sync_rules.specs.Laws.{AreOrderly, IsStoreOf, ReadsSaved, SavedReadsB
 use Rattle.sync_rules.proofs.Giving.{gives-one}
 use Rattle.sync_rules.proofs.KindLemmas.{all_more, found_state, some_is, some_none}
 use Rattle.sync_rules.proofs.StoreLemmas.{store_holds}
-use Rattle.sync_rules.proofs.Takings.{OneGen, one_gen, taken_in}
+use Rattle.sync_rules.proofs.Takings.{one_gen, taken_in}
 
 -- ---- the generations that an attempt gives
 

@@ -1,9 +1,8 @@
 -- How what calls do joins, what a call is known by, and that it saves what is owed.
-use Rattle.std.proofs.Common.{arith, ◌≡◌, ◌⊎◌, inl, inr, ℕ, zero, suc, ◌+◌, ◌<◌, List, [], ◌∷◌, ◌++◌, Bool, true, false, cond, Option, None, Some, refl, sym, ◌∙◌, ap, subst, append_assoc, ne_eqb}
-use Rattle.std.specs.Prelude.{filter, Ok, is_none, ◌==◌, ◌||◌}
+use Rattle.std.proofs.Common.{arith, ◌≡◌, ℕ, ◌<◌, List, [], ◌∷◌, ◌++◌, Bool, true, false, Option, None, Some, refl, sym, ◌∙◌, ap, subst, append_assoc, ne_eqb}
+use Rattle.std.specs.Prelude.{Ok, is_none, ◌==◌, ◌||◌}
 use Rattle.std.specs.List.{list_any}
 use Rattle.std.proofs.lemmas.List.{append-nil}
-use Rattle.outside.specs.Event.{is_links}
 use Rattle.outside.specs.declared.event.Event.{Event}
 use Rattle.outside.specs.declared.event.Event.TheVariants.{Opened, Took, TookEnd, Committed, Emitted, Merged, Shown, Started, ReadLine, ReadEnd, Given, Closed, Got, GotEnd, Saved, Ended}
 use Rattle.catalog.specs.declared.stream.ConfStream.{ConfStream}
@@ -13,9 +12,8 @@ use Rattle.state_kinds.specs.Saved.{Saved as SavedStates}
 use Rattle.state_kinds.specs.Changes.{put_into}
 use Rattle.state_kinds.specs.Texts.{store_text}
 use Rattle.sync_rules.specs.Sync.{Running, Sync}
-use Rattle.sync_rules.specs.Steps.{Step, InAttempt, Gets, Saves}
-use Rattle.sync_rules.specs.SafeSync.{Asked, nothing, IsAsked}
-use Rattle.sync_rules.specs.Calls.{Call, Called, Standing, standing_after, CallGoes, CallStep, HasStarted, SavesRightly, begins_next}
+use Rattle.sync_rules.specs.Steps.{InAttempt, Gets}
+use Rattle.sync_rules.specs.Calls.{Called, Standing, standing_after, CallGoes, HasStarted, SavesRightly, begins_next}
 use Rattle.sync_rules.specs.Laws.{CallsLead, CallsJoin, CallsTell, settles, IsPut, OwedIsPut}
 use Rattle.sync_rules.proofs.KindLemmas.{some_none, some_is}
 

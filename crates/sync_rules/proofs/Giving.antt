@@ -1,6 +1,6 @@
 -- What an attempt was given are the first of the lines that are to be given.
-use Rattle.std.proofs.Common.{◌≡◌, ◌⊎◌, inl, inr, ℕ, List, [], ◌∷◌, ◌++◌, Bool, true, false, Option, None, Some, refl, sym, ◌∙◌, ap, subst, append_assoc}
-use Rattle.std.specs.Prelude.{map, filter, filter_map, fold, is_none, option_map, if◌then◌else◌}
+use Rattle.std.proofs.Common.{◌≡◌, ℕ, List, [], ◌∷◌, ◌++◌, Bool, false, Option, None, Some, refl, sym, ◌∙◌, ap, subst, append_assoc}
+use Rattle.std.specs.Prelude.{map, filter, filter_map, is_none, option_map, if◌then◌else◌}
 use Rattle.std.proofs.lemmas.List.{append-nil, map-append}
 use Rattle.std.proofs.lemmas.List.Elements.{filter-append, filter_map-append}
 use Rattle.std.proofs.lemmas.List.Sums.{fold-append}
@@ -15,7 +15,7 @@ use Rattle.load_rules.specs.Lines.{Line, Reading, line_read, lines_read, passes}
 use Rattle.load_rules.specs.Taken.{LaneState}
 use Rattle.load_rules.specs.Finished.{last_status}
 use Rattle.load_rules.specs.Attempts.{reads, gives, passed}
-use Rattle.sync_rules.specs.Sync.{Running, Sync, no_sync, texts, completion, to_give, and_event, with_event}
+use Rattle.sync_rules.specs.Sync.{Running, Sync, no_sync, texts, completion, to_give, and_event}
 use Rattle.sync_rules.specs.Steps.{Step, InAttempt, ReadsOn, GivesNext, Gets}
 use Rattle.sync_rules.specs.SafeSync.{Asked, nothing, Goes, IsAsked}
 use Rattle.sync_rules.specs.Laws.{GivenArePassed}

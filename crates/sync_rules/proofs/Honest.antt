@@ -1,6 +1,6 @@
 -- What is added plainly and honestly is added safely.
-use Rattle.std.proofs.Common.{arith, ◌≡◌, ◌⊎◌, inl, inr, ℕ, List, [], ◌∷◌, ◌++◌, Bool, true, false, cond, Option, None, Some, refl, sym, ◌∙◌, ap, subst, append_assoc}
-use Rattle.std.specs.Prelude.{filter, fold, is_some, option_map, Contains}
+use Rattle.std.proofs.Common.{◌≡◌, ◌⊎◌, inl, inr, ℕ, List, [], ◌∷◌, ◌++◌, Bool, true, false, cond, Option, None, Some, refl, sym, ◌∙◌, ap, subst, append_assoc}
+use Rattle.std.specs.Prelude.{filter, is_some, option_map, Contains}
 use Rattle.std.specs.List.{AllByRecursion}
 use Rattle.std.proofs.lemmas.List.{append-nil}
 use Rattle.std.proofs.lemmas.List.Elements.{filter-append}
@@ -21,11 +21,10 @@ use Rattle.load_rules.specs.Attempts.{Attempt, attempts, attempts_after, attempt
 use Rattle.load_rules.specs.Honest.{IsCommittedIn, IsCommitted, GotFits, AddedFits}
 use Rattle.load_rules.proofs.TakenLists.{all_weaker}
 use Rattle.load_rules.proofs.SafeAttempts.{loads_link, loads_own}
-use Rattle.state_kinds.specs.Saved.{Saved as SavedStates}
 use Rattle.sync_rules.specs.Generations.{Begins}
-use Rattle.sync_rules.specs.Sync.{Running, Sync, and_event, with_event, started, got, saved, Takes}
+use Rattle.sync_rules.specs.Sync.{Running, Sync, and_event, started, Takes}
 use Rattle.sync_rules.specs.Steps.{Step, Saves, Puts, Gets, InAttempt}
-use Rattle.sync_rules.specs.SafeSync.{Asked, commits, nothing, Goes, IsAsked, IsCovered}
+use Rattle.sync_rules.specs.SafeSync.{commits, nothing, Goes, IsAsked, IsCovered}
 use Rattle.sync_rules.specs.Laws.{KnowsAttempt, Knows, WaysKnow, HonestIsSafe}
 
 -- ---- what the sync knows of its last attempt

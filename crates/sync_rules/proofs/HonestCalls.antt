@@ -1,6 +1,6 @@
 -- An honest call is safe.
-use Rattle.std.proofs.Common.{◌≡◌, ◌⊎◌, inl, inr, ℕ, List, [], ◌∷◌, ◌++◌, Bool, true, false, Option, None, Some, refl, sym, ◌∙◌, ap, subst}
-use Rattle.std.specs.Prelude.{is_none, ◌==◌, ◌||◌}
+use Rattle.std.proofs.Common.{◌≡◌, ◌⊎◌, inl, inr, ℕ, List, [], ◌∷◌, ◌++◌, Bool, true, false, Option, refl, subst}
+use Rattle.std.specs.Prelude.{is_none, ◌==◌}
 use Rattle.outside.specs.declared.event.Event.{Event}
 use Rattle.outside.specs.declared.event.Event.TheVariants.{Opened, Took, TookEnd, Committed, Emitted, Merged, Shown, Started, ReadLine, ReadEnd, Given, Closed, Got, GotEnd, Saved, Ended}
 use Rattle.catalog.specs.declared.stream.ConfStream.{ConfStream}
@@ -9,10 +9,9 @@ use Rattle.load_rules.specs.Prefixes.{EachFits}
 use Rattle.load_rules.specs.Lines.{Reading}
 use Rattle.load_rules.specs.Taken.{LaneState}
 use Rattle.load_rules.specs.Honest.{AddedFits}
-use Rattle.state_kinds.specs.Saved.{Saved as SavedStates}
 use Rattle.sync_rules.specs.Generations.{Begins}
 use Rattle.sync_rules.specs.Sync.{Sync}
-use Rattle.sync_rules.specs.Steps.{Step, Saves, Puts}
+use Rattle.sync_rules.specs.Steps.{Step, Saves}
 use Rattle.sync_rules.specs.SafeSync.{commits, nothing, IsAsked, IsCovered}
 use Rattle.sync_rules.specs.Calls.{Call, Called, Standing, called_after, standing_after, CallGoes, CallStep, SavesRightly, begins_next}
 use Rattle.sync_rules.specs.Laws.{Knows, HonestCallsAreSafe}

@@ -16,7 +16,7 @@ use Rattle.airbyte_message.specs.declared.message.StateKind.TheVariants as kind
 use Rattle.dedup_merge.proofs.SameRowLemmas.{Has}
 use Rattle.load_rules.specs.Prefixes.{EachFits}
 use Rattle.load_rules.specs.Lines.{Line, state_in, is_known}
-use Rattle.load_rules.specs.Taken.{since, states}
+use Rattle.load_rules.specs.Taken.{since}
 use Rattle.state_kinds.specs.Saved.{Saved as Set, has_states}
 use Rattle.state_kinds.specs.Store.{is_stream_kind, is_global_kind}
 use Rattle.sync_rules.specs.Breaches.{is_state, has_stream_state, has_global_state, miscount, breach_of_state, breach_of_message, breach_of}

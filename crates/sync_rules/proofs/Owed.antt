@@ -1,8 +1,7 @@
 -- What is owed is what the last line took that came back.
-use Rattle.std.proofs.Common.{◌≡◌, ◌⊎◌, inl, inr, ℕ, List, [], ◌∷◌, ◌++◌, Bool, true, false, Option, None, Some, refl, sym, ◌∙◌, ap, subst, append_assoc}
-use Rattle.std.specs.Prelude.{is_some, option_map, ◌||◌}
+use Rattle.std.proofs.Common.{◌≡◌, ℕ, List, [], ◌∷◌, ◌++◌, Bool, true, false, Option, None, Some, refl, sym, ◌∙◌, ap, subst, append_assoc}
+use Rattle.std.specs.Prelude.{option_map, ◌||◌}
 use Rattle.std.specs.List.{list_any}
-use Rattle.std.proofs.lemmas.Bool.{false≢true}
 use Rattle.outside.specs.declared.event.Event.{Event}
 use Rattle.outside.specs.declared.event.Event.TheVariants.{Opened, Took, TookEnd, Committed, Emitted, Merged, Shown, Started, ReadLine, ReadEnd, Given, Closed, Got, GotEnd, Saved, Ended}
 use Rattle.catalog.specs.declared.stream.ConfStream.{ConfStream}
@@ -12,7 +11,7 @@ use Rattle.sync_rules.specs.Sync.{Running, Sync, no_sync, Takes, and_event, got}
 use Rattle.sync_rules.specs.Steps.{Step, InAttempt, Gets}
 use Rattle.sync_rules.specs.SafeSync.{Asked, Goes, IsAsked}
 use Rattle.sync_rules.specs.Laws.{got_or_saved, LastTook, LastTookIn, OwedWasTaken}
-use Rattle.sync_rules.proofs.KindLemmas.{some_none, some_is}
+use Rattle.sync_rules.proofs.KindLemmas.{some_none}
 use Rattle.sync_rules.proofs.CallLemmas.{owed_of}
 
 abbrev pub TookIn : Reading → Option LaneState → Option Running → Type 0

@@ -1,20 +1,17 @@
 -- The states that are taken of a lane rise.
-use Rattle.std.proofs.Common.{arith, ◌≡◌, ◌⊎◌, inl, inr, ℕ, suc, ◌+◌, ◌<◌, ◌≤◌, List, [], ◌∷◌, ◌++◌, Bool, true, false, cond, Option, None, Some, refl, sym, ◌∙◌, ap, subst, append_assoc}
-use Rattle.std.specs.Prelude.{filter, length}
+use Rattle.std.proofs.Common.{arith, ◌≡◌, inl, inr, ℕ, suc, ◌<◌, ◌≤◌, List, [], ◌∷◌, ◌++◌, Bool, true, false, cond, Option, None, Some, refl, sym, ◌∙◌, ap, subst}
+use Rattle.std.specs.Prelude.{length}
 use Rattle.std.specs.List.{AllByRecursion}
 use Rattle.std.proofs.lemmas.List.{append-nil, length-append}
-use Rattle.std.proofs.lemmas.Bool.{false≢true}
-use Rattle.outside.specs.Tables.{same_id}
 use Rattle.outside.proofs.TableLaws.{id_own}
 use Rattle.outside.specs.declared.event.Event.{Event}
 use Rattle.outside.specs.declared.event.Event.TheVariants.{Opened, Took, TookEnd, Committed, Emitted, Merged, Shown, Started, ReadLine, ReadEnd, Given, Closed, Got, GotEnd, Saved, Ended}
-use Rattle.basics.specs.declared.stream.StreamId.{StreamId}
 use Rattle.airbyte_message.specs.Lanes.{Lane, one, all, lane_of}
 use Rattle.airbyte_message.specs.Same.{Same}
 use Rattle.airbyte_message.specs.State.{State}
 use Rattle.load_rules.specs.Lines.{Line, Reading, line_read, state_in}
 use Rattle.load_rules.specs.Taken.{LaneState, is_same_lane, of_lane, state_of, state_of_lane, states}
-use Rattle.load_rules.specs.Attempts.{Waiting, none_given, with_given, TakesFirst, StateLeaves, LineLeaves, Leaves, LeavesAll, TakesState}
+use Rattle.load_rules.specs.Attempts.{Waiting, none_given, with_given, TakesFirst, StateLeaves, LineLeaves, Leaves, LeavesAll}
 use Rattle.sync_rules.specs.Laws.{TakenRise}
 
 -- ---- what is taken is taken by one

@@ -1,5 +1,5 @@
 -- The state store holds the text of the saved set.
-use Rattle.std.proofs.Common.{◌≡◌, ◌⊎◌, inl, inr, ℕ, List, [], ◌∷◌, ◌++◌, Option, None, Some, refl, sym, ap, subst}
+use Rattle.std.proofs.Common.{◌≡◌, inl, inr, ℕ, List, [], ◌∷◌, ◌++◌, Option, None, Some, refl, sym, ap, subst}
 use Rattle.std.specs.Prelude.{fold}
 use Rattle.outside.specs.Event.{stored_after}
 use Rattle.outside.specs.declared.event.Event.{Event}

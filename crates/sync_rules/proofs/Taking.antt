@@ -1,5 +1,5 @@
 -- Whatever line comes back takes one given state, or none.
-use Rattle.std.proofs.Common.{◌≡◌, ◌⊎◌, inl, inr, ℕ, List, [], ◌∷◌, ◌++◌, Bool, true, false, Option, None, Some, refl, sym, ◌∙◌, ap, subst, map}
+use Rattle.std.proofs.Common.{◌≡◌, ◌⊎◌, inl, inr, ℕ, List, [], ◌∷◌, ◌++◌, Option, None, Some, refl, sym, ◌∙◌, ap, subst, map}
 use Rattle.std.specs.List.{AllByRecursion}
 use Rattle.std.specs.Str.{bytes_eq}
 use Rattle.std.proofs.lemmas.Bool.{false≢true}
@@ -16,7 +16,7 @@ use Rattle.airbyte_message.specs.declared.message.StateKind.{StateKind}
 use Rattle.airbyte_message.specs.declared.message.StateKind.TheVariants as kind
 use Rattle.load_rules.specs.Lines.{Reading, line_read, state_in}
 use Rattle.load_rules.specs.Taken.{LaneState, of_lane, state_of, state_of_lane, states}
-use Rattle.load_rules.specs.Attempts.{Waiting, none_given, with_given, TakesFirst, StateLeaves, LineLeaves, Leaves, LeavesAll, TakesState}
+use Rattle.load_rules.specs.Attempts.{Waiting, none_given, with_given, TakesFirst, StateLeaves, LineLeaves, Leaves, LeavesAll}
 use Rattle.sync_rules.specs.Sync.{Takes}
 use Rattle.sync_rules.specs.Laws.{LinesTake}
 use Rattle.sync_rules.proofs.KindLemmas.{by_bool, heads}

@@ -17,7 +17,7 @@ use Rattle.outside.specs.declared.event.Event.TheVariants.{Opened, Took, TookEnd
 use Rattle.outside.specs.declared.event.AttemptPlan.{AttemptPlan}
 use Rattle.outside.specs.declared.faults.StateFault.{StateFault}
 use Rattle.outside.specs.declared.faults.StateFault.TheVariants as fault
-use Rattle.airbyte_message.specs.Lanes.{Lane, lane_of, one}
+use Rattle.airbyte_message.specs.Lanes.{Lane, lane_of}
 use Rattle.airbyte_message.specs.Messages.{IsMessage}
 use Rattle.airbyte_message.specs.State.{State}
 use Rattle.airbyte_message.specs.declared.message.Message.{Message}

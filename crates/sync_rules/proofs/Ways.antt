@@ -1,7 +1,5 @@
 -- How ways join and part, and what a plain one is known by.
-use Rattle.std.proofs.Common.{◌≡◌, ℕ, List, [], ◌∷◌, ◌++◌, Bool, true, false, refl, sym, ap, subst, append_assoc, append-nil, ◌⊎◌, inl, inr}
-use Rattle.std.specs.Prelude.{filter, Ok, Contains}
-use Rattle.outside.specs.Event.{is_links}
+use Rattle.std.proofs.Common.{ℕ, List, [], ◌∷◌, ◌++◌, refl, sym, subst, append_assoc, append-nil, ◌⊎◌, inl, inr}
 use Rattle.outside.specs.declared.event.Event.{Event}
 use Rattle.outside.specs.declared.event.Event.TheVariants.{Opened, Took, TookEnd, Committed, Emitted, Merged, Shown, Started, ReadLine, ReadEnd, Given, Closed, Got, GotEnd, Saved, Ended}
 use Rattle.catalog.specs.declared.stream.ConfStream.{ConfStream}
@@ -13,7 +11,7 @@ use Rattle.sync_rules.specs.Generations.{Begins}
 use Rattle.sync_rules.specs.Sync.{Sync, no_sync}
 use Rattle.sync_rules.specs.Steps.{Step, Saves, Puts}
 use Rattle.sync_rules.specs.SafeSync.{Asked, commits, nothing, Goes, IsAsked}
-use Rattle.sync_rules.specs.Laws.{WaysJoin, WaysPart, Parted, FrontsAreSafe, StaysSafe, SafeIsPlain, OwnEventsTell}
+use Rattle.sync_rules.specs.Laws.{WaysJoin, WaysPart, FrontsAreSafe, StaysSafe, SafeIsPlain, OwnEventsTell}
 
 pub ways_join : WaysJoin
 ways_join streams read asked before [] more sync between now first then =

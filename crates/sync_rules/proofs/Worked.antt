@@ -1,5 +1,5 @@
 -- The worked standings.
-use Rattle.std.proofs.Common.{arith, ◌≡◌, ◌⊎◌, inl, inr, ◌<◌, ℕ, zero, suc, List, [], ◌∷◌, ◌++◌, Bool, true, false, Option, None, Some, refl, sym, ◌∙◌, ap, subst}
+use Rattle.std.proofs.Common.{arith, ◌≡◌, ◌⊎◌, inl, inr, ◌<◌, ℕ, List, [], ◌∷◌, ◌++◌, Bool, true, false, Option, None, Some, refl, sym, ◌∙◌, ap, subst}
 use Rattle.std.specs.Prelude.{Result, Ok, Err, is_some, fold, codes, ◌≤◌, ◌^◌}
 use Rattle.std.specs.Str.{bytes_eq}
 use Rattle.std.proofs.lemmas.Bool.{false≢true}
@@ -21,19 +21,18 @@ use Rattle.outside.specs.declared.faults.StateFault.{StateFault}
 use Rattle.airbyte_message.specs.Lanes.{one}
 use Rattle.catalog.specs.declared.stream.ConfStream.{ConfStream}
 use Rattle.catalog.specs.declared.stream.Gen.{Gen}
-use Rattle.load_rules.specs.Examples.{a, b, configured, both_streams, plan_of_a}
+use Rattle.load_rules.specs.Examples.{a, b, both_streams, plan_of_a}
 use Rattle.load_rules.specs.Lines.{line_read}
 use Rattle.load_rules.specs.Taken.{LaneState, Entry}
 use Rattle.load_rules.specs.Honest.{IsCommitted}
 use Rattle.load_rules.specs.Attempts.{Waiting, none_given, with_given, attempts, attempt_events, LeavesAll, TakesState}
 use Rattle.state_kinds.specs.Saved.{Saved, nothing_saved, state_of}
 use Rattle.state_kinds.specs.Changes.{begun, given_of, put_into}
-use Rattle.state_kinds.specs.Texts.{store_text}
 use Rattle.sync_rules.specs.Generations.{Begins, gens_of, Held, generations_in}
 use Rattle.sync_rules.specs.Sync.{Running, Sync, Takes, completion}
 use Rattle.sync_rules.specs.SafeSync.{commits, IsAsked, IsCovered}
 use Rattle.sync_rules.specs.Steps.{Saves, Puts}
-use Rattle.sync_rules.specs.Examples.{GenerationsAsWorked, BreachesAsWorked, SyncsAsWorked, CallsAsWorked, restarting, only_a, tell, held_a, held_all, held_both, gen, stands, begun_again, by_signal, failed, state_back, died, taken_a, taken_all, written_a, catalog_text, plan_of, entry_a, with_row, call, has_called, saved_a, first_attempt}
+use Rattle.sync_rules.specs.Examples.{GenerationsAsWorked, BreachesAsWorked, SyncsAsWorked, CallsAsWorked, restarting, only_a, tell, held_a, held_all, held_both, gen, stands, begun_again, failed, state_back, died, taken_a, taken_all, written_a, catalog_text, entry_a, with_row, saved_a, first_attempt}
 use Rattle.sync_rules.proofs.Rising.{leaves_all_one}
 use Rattle.sync_rules.proofs.KindLemmas.{heads}
 

@@ -1,5 +1,5 @@
 -- What a line of a source breaches, behind those that were read before it in its attempt.
-use Rattle.std.specs.Prelude.{◌≡◌, ℕ, List, [], ◌==◌, length, nat_lt, Bool, true, false, ◌||◌, is_some, if◌then◌else◌, Option, None, Some}
+use Rattle.std.specs.Prelude.{◌≡◌, ℕ, List, [], ◌==◌, length, nat_lt, Bool, false, ◌||◌, is_some, if◌then◌else◌, Option, None, Some}
 use Rattle.std.specs.List.{list_any}
 use Rattle.basics.specs.declared.limits.TheConstants.{LONGEST_LINE}
 use Rattle.basics.specs.declared.stream.StreamId.{StreamId}

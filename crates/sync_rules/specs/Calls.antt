@@ -1,6 +1,6 @@
 -- What one call of the worker adds to a trace: its attempts by their numbers, each begun with a set that is saved for it, each
 -- state that comes back saved before the next, and a last attempt that went well.
-use Rattle.std.specs.Prelude.{◌≡◌, ℕ, ◌+◌, ◌<◌, ◌≤◌, List, [], ◌∷◌, ◌++◌, Bool, true, false, ◌==◌, ◌||◌, is_none, if◌then◌else◌, Option, None, Some, Ok}
+use Rattle.std.specs.Prelude.{◌≡◌, ℕ, ◌+◌, ◌<◌, ◌≤◌, List, [], ◌∷◌, ◌++◌, Bool, true, false, ◌==◌, ◌||◌, is_none, if◌then◌else◌, None, Some, Ok}
 use Rattle.basics.specs.declared.stream.StreamId.{StreamId}
 use Rattle.outside.specs.Event.{read_over, got_over}
 use Rattle.outside.specs.declared.event.AttemptPlan.{AttemptPlan}

@@ -1,5 +1,5 @@
 -- Standings of a sync that were worked by hand, and what fits there or does not.
-use Rattle.std.specs.Prelude.{◌≡◌, ℕ, ◌+◌, ◌-◌, ◌^◌, List, [], ◌∷◌, ◌++◌, ◌==◌, if◌then◌else◌, Bool, true, false, Option, None, Some, codes}
+use Rattle.std.specs.Prelude.{◌≡◌, ℕ, ◌+◌, ◌-◌, ◌^◌, List, [], ◌∷◌, ◌++◌, ◌==◌, if◌then◌else◌, true, false, Option, None, Some, codes}
 use Rattle.basics.specs.declared.stream.StreamId.{StreamId}
 use Rattle.outside.specs.declared.event.AttemptPlan.{AttemptPlan}
 use Rattle.outside.specs.declared.event.Codes.{Codes}
@@ -8,10 +8,8 @@ use Rattle.outside.specs.declared.event.Event.TheVariants as event
 use Rattle.outside.specs.declared.event.Exit.TheVariants.{Code, Signal}
 use Rattle.outside.specs.declared.event.Job.TheVariants as job
 use Rattle.outside.specs.declared.event.RawRow.{RawRow}
-use Rattle.outside.specs.declared.faults.Breach.{Breach}
 use Rattle.outside.specs.declared.faults.Breach.TheVariants as breach
 use Rattle.airbyte_message.specs.Lanes.{one, all}
-use Rattle.airbyte_message.specs.State.{State}
 use Rattle.airbyte_message.specs.declared.message.Message.{Message}
 use Rattle.airbyte_message.specs.declared.message.Message.TheVariants as message
 use Rattle.airbyte_message.specs.declared.message.StateKind.{StateKind}
@@ -26,12 +24,12 @@ use Rattle.load_rules.specs.Taken.{LaneState, Entry}
 use Rattle.load_rules.specs.Rows.{IsRowOf}
 use Rattle.state_kinds.specs.Saved.{Saved, nothing_saved, state_of}
 use Rattle.state_kinds.specs.Texts.{store_text}
-use Rattle.sync_rules.specs.Generations.{restarts, gen_of, gens_of, first_spent}
+use Rattle.sync_rules.specs.Generations.{restarts, gen_of, first_spent}
 use Rattle.sync_rules.specs.Breaches.{breach_of}
-use Rattle.sync_rules.specs.Sync.{Running, Sync, no_sync, completion}
+use Rattle.sync_rules.specs.Sync.{Sync, no_sync, completion}
 use Rattle.sync_rules.specs.Steps.{Step}
 use Rattle.sync_rules.specs.SafeSync.{commits, nothing, IsAsked, Goes}
-use Rattle.sync_rules.specs.Calls.{Call, Called, Standing, CallGoes, CallStep, called_at, not_called}
+use Rattle.sync_rules.specs.Calls.{Call, Called, CallGoes, CallStep, called_at, not_called}
 
 -- streams that restart: their generations are nobody's but this project's
 abbrev pub restarting : StreamId → ConfStream

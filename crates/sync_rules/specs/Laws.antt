@@ -3,7 +3,6 @@ use Rattle.std.specs.List.{AllByRecursion, list_any}
 use Rattle.std.specs.Prelude.{◌≡◌, ◌⊎◌, ℕ, ◌<◌, List, [], ◌∷◌, ◌++◌, filter, length, Bool, true, false, Option, None, Some, Ok}
 use Rattle.stream_index.specs.Distinct.{AreDistinct}
 use Rattle.json_fields.specs.Answer.{IsOnly}
-use Rattle.basics.specs.declared.stream.StreamId.{StreamId}
 use Rattle.outside.specs.Event.{is_links, stored}
 use Rattle.outside.specs.declared.event.Event.{Event}
 use Rattle.outside.specs.declared.event.Event.TheVariants as event

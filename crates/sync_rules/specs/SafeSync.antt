@@ -1,5 +1,5 @@
 -- A safe sync: each event fits where the sync stands before it. It is asked event by event, so it holds in every prefix.
-use Rattle.std.specs.Prelude.{◌≡◌, ℕ, List, [], ◌∷◌, ◌++◌, true}
+use Rattle.std.specs.Prelude.{◌≡◌, List, [], ◌∷◌, ◌++◌, true}
 use Rattle.std.specs.List.{AllByRecursion}
 use Rattle.outside.specs.declared.event.Event.{Event}
 use Rattle.catalog.specs.declared.stream.ConfStream.{ConfStream}
