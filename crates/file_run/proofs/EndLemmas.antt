@@ -1,10 +1,8 @@
 -- How what a source may say ends.
-use Rattle.std.proofs.Common.{◌≡◌, ◌≢◌, ◌⊎◌, ◌∙◌, inl, inr, ℕ, ◌+◌, nat_lt, if◌then◌else◌, List, [], ◌∷◌, Bool, true, false, Option, None, Some, IfSome, Result, Ok, Err, MatchResult, is_some, length, refl, sym, ap, subst}
+use Rattle.std.proofs.Common.{◌≡◌, ◌∙◌, inl, inr, ℕ, ◌+◌, nat_lt, if◌then◌else◌, List, [], ◌∷◌, Bool, true, false, Option, None, Some, Result, Ok, Err, MatchResult, is_some, length, refl, sym, ap, subst}
 use Rattle.std.specs.Bool.{⊤}
-use Rattle.basics.specs.Told.{Rose}
-use Rattle.json_fields.specs.Answer.{IsOnly}
-use Rattle.outside.specs.Desk.{DeskSeen, Texts}
-use Rattle.outside.specs.Feed.{Left, anything, behind_line, nothing_left}
+use Rattle.outside.specs.Desk.{Texts}
+use Rattle.outside.specs.Feed.{Left}
 use Rattle.outside.specs.Status.{catalog_status, config_status, state_status}
 use Rattle.outside.specs.declared.faults.CatalogFault.{CatalogFault}
 use Rattle.outside.specs.declared.faults.CatalogFault.TheVariants as catalog
@@ -17,21 +15,18 @@ use Rattle.outside.specs.declared.status.Status.TheVariants as status
 use Rattle.basics.specs.declared.stream.StreamId.{StreamId}
 use Rattle.airbyte_message.specs.State.{State}
 use Rattle.catalog.specs.declared.stream.ConfStream.{ConfStream}
-use Rattle.catalog.specs.Reading.{ReadsAs}
 use Rattle.state_kinds.specs.Store.{is_global_kind}
-use Rattle.state_kinds.specs.StateLists.{ReadsStates, has_kind}
-use Rattle.source_lines.specs.Begins.{Begun, BeginsAs, BeginsKnown, BeginsStates, BeginsStreams, BeginsUnless, first_unknown}
+use Rattle.state_kinds.specs.StateLists.{has_kind}
+use Rattle.source_lines.specs.Begins.{Begun, BeginsKnown, BeginsStates, BeginsStreams, BeginsUnless, first_unknown}
 use Rattle.source_lines.specs.Giving.{MayGiveLines, MayGiveStream, MayGiveStreams, listed_lines}
 use Rattle.source_lines.specs.Giving.{Untold, Refused, Opened}
 use Rattle.source_lines.specs.SourceFeeds.{MayBeginBy}
 use Rattle.source_lines.specs.Sources.{Listed}
 use Rattle.csv_sheet.specs.Sheet.{Sheet, sheet_in}
-use Rattle.file_config.specs.Config.{ReadsConfig}
-use Rattle.file_source.specs.Blob.{first_blob}
-use Rattle.file_source.specs.Files.{StartsAt, file_named, listed_in, opened_file, opened_sheet, opening}
+use Rattle.file_source.specs.Files.{StartsAt, file_named, opened_file, opened_sheet, opening}
 use Rattle.file_source.specs.declared.source.FileStart.{FileStart}
 use Rattle.file_source.specs.declared.source.FileText.{FileText}
-use Rattle.file_run.specs.Runs.{BadConfig, BeginsFiles, Files, IsTold, MayByConfig, MaySayFiles, MaySayOne, MaySayStreams, stream_behind, stream_of, streams_from}
+use Rattle.file_run.specs.Runs.{BadConfig, BeginsFiles, Files, IsTold, MayByConfig, MaySayFiles}
 use Rattle.file_run.specs.declared.run.Given.{Given}
 
 -- a status that the texts of a source may end it with

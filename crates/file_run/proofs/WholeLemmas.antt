@@ -1,10 +1,8 @@
 -- A whole run: where its texts are valid and no fault was counted it ends well; and it answers `Usage` by its words alone.
-use Rattle.std.proofs.Common.{◌≡◌, ◌≢◌, ◌⊎◌, ◌↔◌, ◌∙◌, inl, inr, ℕ, ◌+◌, List, [], ◌∷◌, Bool, true, false, Option, None, Some, IfSome, Result, Ok, Err, codes, is_some, refl, sym, ap, subst, arith}
-use Rattle.std.specs.List.{AllZip}
+use Rattle.std.proofs.Common.{◌≡◌, ◌⊎◌, ◌↔◌, ◌∙◌, inl, inr, ℕ, ◌+◌, List, [], ◌∷◌, true, false, Option, None, Some, IfSome, Result, Ok, Err, is_some, refl, sym, ap, subst, arith}
 use Rattle.basics.specs.Told.{Rose, RoseIf}
-use Rattle.json_fields.specs.Answer.{IsOnly}
 use Rattle.outside.specs.Desk.{DeskSeen, SaysOnly, Texts}
-use Rattle.outside.specs.Feed.{Left, anything, behind_line, nothing_left}
+use Rattle.outside.specs.Feed.{Left, anything, nothing_left}
 use Rattle.outside.specs.declared.faults.ConfigFault.{ConfigFault}
 use Rattle.outside.specs.declared.status.Status.{Status}
 use Rattle.outside.specs.declared.status.Status.TheVariants as status
@@ -15,7 +13,6 @@ use Rattle.say_feed.specs.Said.{SaysFeed}
 use Rattle.source_lines.specs.Begins.{BeginsAs}
 use Rattle.source_lines.specs.Sources.{Listed}
 use Rattle.source_lines.specs.SourceFeeds.{MayBeginBy}
-use Rattle.file_config.specs.Config.{ReadsConfig}
 use Rattle.file_config.specs.declared.config.FileConfig.{FileConfig}
 use Rattle.file_config.specs.declared.config.FileEntry.{FileEntry}
 use Rattle.csv_sheet.specs.Sheet.{Sheet, sheet_in}

@@ -181,6 +181,14 @@ pub record RunsAs (result : Status) (May : Type 0 → Option Texts → Left → 
   pub say_stays : result ≢ status.WriteFault → new.say_faults ≡ old.say_faults
   pub texts : new.texts ≡ old.texts
 
+-- the commands that end where a text cannot be read
+abbrev pub EndsUnread : Option SourceAsked → Type 0
+EndsUnread (Some (asked.Discover config)) = Unit {0}
+EndsUnread (Some (asked.Read config catalog state)) = Unit {0}
+EndsUnread (Some asked.Spec) = ⊥
+EndsUnread (Some (asked.Check config)) = ⊥
+EndsUnread None = ⊥
+
 -- whether the words ask for `check`, which answers also where a text could not be read
 abbrev pub is_check : Option SourceAsked → Bool
 is_check (Some (asked.Check config)) = true
@@ -214,6 +222,10 @@ AreValid by_name (Some (asked.Read config catalog state)) =
 
 abbrev pub IsOkOrNoMemory : Status → Type 0
 IsOkOrNoMemory result = (result ≡ status.Ok) ⊎ (result ≡ status.NoMemory)
+
+-- For private clauses: it answers Ok, or memory was wanting, or a line could not be said or written out.
+abbrev pub EndsSaid : Status → Type 0
+EndsSaid result = (result ≡ status.Ok) ⊎ (result ≡ status.NoMemory) ⊎ (result ≡ status.WriteFault)
 
 -- For private clauses: why the files of a configuration with this text were not read.
 abbrev pub RefusesFiles : Status → List ℕ → DeskSeen → DeskSeen → Type 0

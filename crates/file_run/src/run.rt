@@ -10,6 +10,8 @@ ghost use Rattle.file_run.specs.Runs.{
   AreFiles,
   AreStates,
   AreValid,
+  EndsSaid,
+  EndsUnread,
   HasFiles,
   HasText,
   IsChecked,
@@ -60,6 +62,7 @@ fn read_fault(fault: Fault) -> Status
 // Says the one line of a command, and writes it out.
 fn say_answer<K: Desk>(desk: &mut K, line: &[u8]) -> Status
     ensures runs { RunsAs result (λ failed by_name. MaySayOne line.now) (K.seen desk.old) (K.seen desk.new) }
+    ensures cause { EndsSaid result }
     ensures reads { (K.seen desk.new).read_faults ≡ (K.seen desk.old).read_faults }
 {
     match say_line(desk, line) {
@@ -146,6 +149,7 @@ fn checked<K: Desk>(alloc: Global, desk: &mut K, config: &str) -> Result<Bytes, 
 // The command `check`.
 fn run_check<K: Desk>(alloc: Global, desk: &mut K, config: &str) -> Status
     ensures runs { RunsAs result (λ failed by_name. MayCheck failed by_name config.now) (K.seen desk.old) (K.seen desk.new) }
+    ensures cause { EndsSaid result }
 {
     match checked(alloc, desk, config) {
         Ok(line) => say_answer(desk, line.as_slice()),
@@ -346,6 +350,7 @@ fn run_read_by<K: Desk>(
 // The command `spec`.
 fn run_spec<K: Desk>(alloc: Global, desk: &mut K) -> Status
     ensures runs { RunsAs result (λ failed by_name. MaySayOne spec_line) (K.seen desk.old) (K.seen desk.new) }
+    ensures cause { EndsSaid result }
     ensures reads { (K.seen desk.new).read_faults ≡ (K.seen desk.old).read_faults }
 {
     match specified(alloc) {
@@ -364,6 +369,7 @@ pub fn run_source<K: Desk>(alloc: Global, desk: &mut K, now_ms: u64, words: &[St
     ensures runs { RunsAs result (MaySay now_ms (source_asked (map string_bytes words.now))) (K.seen desk.old) (K.seen desk.new) }
     ensures reads { is_check (source_asked (map string_bytes words.now)) ≡ false → result ≢ status.FileFault → (K.seen desk.new).read_faults ≡ (K.seen desk.old).read_faults }
     ensures usage { (result ≡ status.Usage) ↔ (source_asked (map string_bytes words.now) ≡ None) }
+    ensures unread { result ≡ status.FileFault → EndsUnread (source_asked (map string_bytes words.now)) }
     ensures complete { IfSome (K.seen desk.old).texts (λ by_name. AreValid by_name (source_asked (map string_bytes words.now)) → ¬ Rose (K.seen desk.old).read_faults (K.seen desk.new).read_faults → ¬ Rose (K.seen desk.old).say_faults (K.seen desk.new).say_faults → IsOkOrNoMemory result) }
 {
     match source_words(words) {

@@ -1,4 +1,4 @@
-use Rattle.std.proofs.Common.{◌≡◌, List, ap, subst}
+use Rattle.std.proofs.Common.{List, subst}
 use Rattle.file_source.specs.declared.source.FileText.{FileText}
 use Rattle.file_run.specs.Runs.{Files, MayDiscover, MaySayStreams, RunsAs, streams_from}
 use Rattle.file_run.proofs.RunLemmas.{fault_of_err, files_not_read, runs_behind}

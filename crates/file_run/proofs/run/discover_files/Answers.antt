@@ -1,4 +1,4 @@
-use Rattle.std.proofs.Common.{◌≡◌, ◌<◌, ◌≤◌, inl, inr, length}
+use Rattle.std.proofs.Common.{◌<◌, ◌≤◌, inl, inr, length}
 use Rattle.file_run.proofs.EntryLemmas.{streams-all, streams-more, streams-refused}
 use Rattle.file_run.proofs.run.discover_files.Goals as goal
 

@@ -1,5 +1,4 @@
-use Rattle.std.proofs.Common.{◌≡◌, List, ℕ, ap, subst, sym}
-use Rattle.outside.specs.declared.status.Status.{Status}
+use Rattle.std.proofs.Common.{List, ℕ, subst}
 use Rattle.file_run.specs.Runs.{MayDiscover, MayDiscoverBy, RunsAs}
 use Rattle.file_run.proofs.RunLemmas.{err_of_fault, not_read_by, runs_behind}
 use Rattle.file_run.proofs.run.run_discover.Goals as goal

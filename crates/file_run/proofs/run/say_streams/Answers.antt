@@ -1,4 +1,4 @@
-use Rattle.std.proofs.Common.{◌≡◌, List, ℕ, Ok, Result, subst, sym}
+use Rattle.std.proofs.Common.{List, ℕ, Result, subst, sym}
 use Rattle.outside.specs.declared.status.Status.{Status}
 use Rattle.file_source.specs.Discovered.{discover_line}
 use Rattle.file_run.specs.Runs.{MaySayOne, MaySayStreams, streams_from}
