@@ -1,6 +1,7 @@
 -- What a source of files may say, and how it ends, by its words, the texts of its desk, and the moment.
-use Rattle.std.specs.Prelude.{◌≡◌, ◌≢◌, ◌⊎◌, ⊤, ℕ, ◌+◌, ◌-◌, ◌^◌, min, List, [], ◌∷◌, All, Bool, true, false, Option, None, Some, IfSome, IsSome, Result, Ok, Err, codes, is_some}
-use Rattle.std.specs.List.{AllZip}
+use Rattle.std.specs.Prelude.{◌≡◌, ◌≢◌, ◌⊎◌, ⊤, ℕ, ◌+◌, ◌-◌, ◌^◌, min, List, [], ◌∷◌, ◌++◌, if◌then◌else◌, All, Bool, true, false, Option, None, Some, IfSome, IsSome, Result, Ok, Err, codes, is_some}
+use Rattle.std.specs.List.{AllZip, list_any}
+use Rattle.std.specs.Str.{bytes_eq}
 use Rattle.basics.specs.Told.{Rose, RoseIf, told_more}
 use Rattle.json_fields.specs.Answer.{IsOnly}
 use Rattle.outside.specs.Desk.{DeskSeen, Texts}
@@ -106,10 +107,17 @@ stream_behind (Ok text) (Ok texts) = Ok (text ∷ texts)
 stream_behind (Ok text) (Err why) = Err why
 stream_behind (Err why) others = Err why
 
--- the streams of files, of which the first has this place; or the first that is refused
-abbrev pub streams_from : ℕ → List FileText → Result (List (List ℕ)) Status
-streams_from place [] = Ok []
-streams_from place (file ∷ files) = stream_behind (stream_of (shown_place place) file (sheet_in file.text)) (streams_from (place + 1) files)
+-- The streams of files that stand behind ones of these names, of which the first has this place; or the first that is refused. Of two
+-- files of one name the first counts: the other is no stream, whatever its text.
+abbrev pub streams_from : ℕ → List (List ℕ) → List FileText → Result (List (List ℕ)) Status
+streams_from place names [] = Ok []
+streams_from place names (file ∷ files) =
+    if list_any (bytes_eq file.name) names then streams_from (place + 1) names files
+    else stream_behind (stream_of (shown_place place) file (sheet_in file.text)) (streams_from (place + 1) (names ++ file.name ∷ []) files)
+
+-- the streams of a configuration's files
+abbrev pub streams_in : List FileText → Result (List (List ℕ)) Status
+streams_in files = streams_from 0 [] files
 
 -- one line, and then all is well, or nothing is said of what comes
 abbrev pub MaySayOne : List ℕ → Left → Type 0
@@ -120,7 +128,7 @@ MaySayStreams (Ok texts) told = MaySayOne (discover_line texts) told
 MaySayStreams (Err why) told = told ≡ nothing_left why
 
 abbrev pub MayDiscover : Option Texts → List ℕ → Left → Type 0
-MayDiscover texts text told = MayByConfig texts text (λ files. MaySayStreams (streams_from 0 files)) told
+MayDiscover texts text told = MayByConfig texts text (λ files. MaySayStreams (streams_in files)) told
 
 -- ---- the command `check`
 
@@ -216,7 +224,7 @@ AreValid by_name (Some asked.Spec) = ⊤
 AreValid by_name (Some (asked.Check config)) = ⊤
 AreValid by_name (Some (asked.Discover config)) =
     (text : List ℕ) × (by_name config ≡ Some text) × (files : List FileText) × HasFiles (Some by_name) text files
-    × (streams : List (List ℕ)) × (streams_from 0 files ≡ Ok streams)
+    × (streams : List (List ℕ)) × (streams_in files ≡ Ok streams)
 AreValid by_name (Some (asked.Read config catalog state)) =
     (given : Given) × IsGiven (Some by_name) config catalog state given × (files : List FileText) × HasFiles (Some by_name) given.config files × IsValidRead files given
 
@@ -236,3 +244,12 @@ RefusesFiles why text old new =
 abbrev pub streams_behind : List (List ℕ) → Result (List (List ℕ)) Status → Result (List (List ℕ)) Status
 streams_behind [] others = others
 streams_behind (text ∷ texts) others = stream_behind (Ok text) (streams_behind texts others)
+
+-- For private clauses: the stream of the file with this place was put behind others; or a file in front has its name, and nothing was.
+pub data AddsStream (place : ℕ) (file : FileText) (names texts names_now texts_now : List (List ℕ)) : Type 0 where
+  Passed : list_any (bytes_eq file.name) names ≡ true → names_now ≡ names → texts_now ≡ texts → AddsStream place file names texts names_now texts_now
+  Added : list_any (bytes_eq file.name) names ≡ false → names_now ≡ names ++ file.name ∷ [] → (text : List ℕ) → stream_of place file (sheet_in file.text) ≡ Ok text → texts_now ≡ texts ++ text ∷ [] → AddsStream place file names texts names_now texts_now
+
+-- For private clauses: memory was wanting, or the first file of a name is refused.
+abbrev pub RefusesStream : ℕ → FileText → List (List ℕ) → Status → Type 0
+RefusesStream place file names why = (why ≡ status.NoMemory) ⊎ ((list_any (bytes_eq file.name) names ≡ false) × (stream_of place file (sheet_in file.text) ≡ Err why))

@@ -1,12 +1,14 @@
 // The top call of a source of files.
-ghost use Rattle.std.specs.Prelude.{◌≡◌, ◌≢◌, ◌⊎◌, ◌<◌, ◌^◌, ◌↔◌, All, Err, IfErr, IfOk, IfSome, IsErrOf, None, Ok, codes, false, map, option_copied, string_bytes};
+ghost use Rattle.std.specs.Prelude.{◌≡◌, ◌≢◌, ◌⊎◌, ◌<◌, ◌^◌, ◌↔◌, ◌++◌, [], ◌∷◌, All, Err, IfErr, IfOk, IfSome, IsErrOf, None, Ok, OnOk, codes, false, map, option_copied, string_bytes};
 ghost use Rattle.basics.specs.Told.{Rose};
 ghost use Rattle.outside.specs.declared.status.Status.TheVariants as status;
+ghost use Rattle.name_index.specs.Named.{with_name};
 ghost use Rattle.csv_sheet.specs.Sheet.{sheet_in};
 ghost use Rattle.cli_words.specs.Connectors.{source_asked};
 ghost use Rattle.outside.specs.declared.faults.ConfigFault.TheVariants as config;
 ghost use Rattle.file_source.specs.Discovered.{discover_line, failed_line, spec_line};
 ghost use Rattle.file_run.specs.Runs.{
+  AddsStream,
   AreFiles,
   AreStates,
   AreValid,
@@ -29,12 +31,13 @@ ghost use Rattle.file_run.specs.Runs.{
   MaySayStreams,
   ReadsOnly,
   RefusesFiles,
+  RefusesStream,
   RunsAs,
   is_check,
   read_status,
   shown_place,
   stream_of,
-  streams_from,
+  streams_in,
 };
 
 use basics::{Bytes, BytesList, Copies, NoMemory, Sequence, StreamNo};
@@ -44,6 +47,7 @@ use file_config::{FileConfig, FileEntry, read_file_config};
 use file_source::{
     FileSource, FileText, FileTextList, discovered, failed, file_text_of, specified, succeeded,
 };
+use name_index::NameIndex;
 use outside::{ConfigFault, Desk, Fault, Feed, Status};
 use say_feed::{say_feed, say_line, write_out};
 use source_lines::SourceFeed;
@@ -179,20 +183,60 @@ fn place_shown(place: usize) -> StreamNo
     place.min(u32::MAX as usize) as u32
 }
 
-// The streams of files.
-fn discover_files(alloc: Global, files: &[FileText]) -> Result<BytesList, Status>
-    ensures texts { IfOk result (λ texts. streams_from 0 files.now ≡ Ok texts) }
-    ensures refused { IfErr result (λ why. (why ≡ status.NoMemory) ⊎ (streams_from 0 files.now ≡ Err why)) }
+// Puts a name and a stream behind others.
+fn put_stream(
+    alloc: Global,
+    names: &mut NameIndex,
+    texts: &mut BytesList,
+    name: &str,
+    text: Bytes,
+) -> Result<(), NoMemory>
+    ensures { OnOk result ((names.new ≡ with_name names.old name.now) × (texts.new ≡ texts.old ++ text ∷ [])) }
 {
+    names.add(alloc, name)?;
+    texts.push(text)
+}
+
+// Puts the stream of the file with this place behind others, unless a file in front of it has its name.
+fn add_stream(
+    alloc: Global,
+    names: &mut NameIndex,
+    texts: &mut BytesList,
+    file: &FileText,
+    place: StreamNo,
+) -> Result<(), Status>
+    ensures added { IfOk result (λ _. AddsStream place file.now names.old texts.old names.new texts.new) }
+    ensures refused { IfErr result (RefusesStream place file.now names.old) }
+{
+    match names.find(file.name.as_str()) {
+        Some(_place) => Ok(()),
+        None => match discover_file(alloc, file, place) {
+            Ok(text) => match put_stream(alloc, names, texts, file.name.as_str(), text) {
+                Ok(()) => Ok(()),
+                Err(NoMemory) => Err(Status::NoMemory),
+            },
+            Err(why) => Err(why),
+        },
+    }
+}
+
+// The streams of files; of two with one name the first counts.
+fn discover_files(alloc: Global, files: &[FileText]) -> Result<BytesList, Status>
+    ensures texts { IfOk result (λ texts. streams_in files.now ≡ Ok texts) }
+    ensures refused { IfErr result (λ why. (why ≡ status.NoMemory) ⊎ (streams_in files.now ≡ Err why)) }
+{
+    let mut names = NameIndex::new(alloc);
     let mut texts = BytesList::new(alloc);
     for place in 0..files.len() {
-        let text = match discover_file(alloc, &files[place], place_shown(place)) {
-            Ok(text) => text,
-            Err(why) => return Err(why),
-        };
-        match texts.push(text) {
+        match add_stream(
+            alloc,
+            &mut names,
+            &mut texts,
+            &files[place],
+            place_shown(place),
+        ) {
             Ok(()) => {}
-            Err(NoMemory) => return Err(Status::NoMemory),
+            Err(why) => return Err(why),
         }
     }
     Ok(texts)
@@ -211,7 +255,7 @@ fn say_discovered<K: Desk>(alloc: Global, desk: &mut K, texts: &BytesList) -> St
 
 // Says the streams of files.
 fn say_streams<K: Desk>(alloc: Global, desk: &mut K, files: &[FileText]) -> Status
-    ensures runs { RunsAs result (λ failed by_name. MaySayStreams (streams_from 0 files.now)) (K.seen desk.old) (K.seen desk.new) }
+    ensures runs { RunsAs result (λ failed by_name. MaySayStreams (streams_in files.now)) (K.seen desk.old) (K.seen desk.new) }
     ensures reads { (K.seen desk.new).read_faults ≡ (K.seen desk.old).read_faults }
 {
     match discover_files(alloc, files) {
