@@ -1,16 +1,20 @@
 -- The files of a configuration, one by one.
-use Rattle.std.proofs.Common.{◌≡◌, ◌∙◌, ℕ, suc, ◌+◌, ◌<◌, ◌≤◌, List, [], ◌∷◌, ◌++◌, Result, Ok, Err, length, take, drop, get_or, refl, sym, ap, subst, arith}
+use Rattle.std.proofs.Common.{◌≡◌, ◌⊎◌, inl, inr, ◌∙◌, ◌||◌, ℕ, zero, suc, ◌+◌, ◌<◌, ◌≤◌, List, [], ◌∷◌, ◌++◌, slice_get, Bool, true, false, cond, Result, Ok, Err, length, take, drop, get_or, refl, sym, ap, subst, arith}
 use Rattle.std.proofs.Math.Seq.{drop-cons}
-use Rattle.std.specs.List.{AllZip}
+use Rattle.std.specs.List.{AllZip, list_any}
+use Rattle.std.specs.Str.{bytes_eq}
+use Rattle.std.proofs.lemmas.Slice.Eq.{bytes_eq-Decides}
+use Rattle.name_index.specs.Named.{with_name}
 use Rattle.std.proofs.lemmas.List.{drop_all, take_all, take_more}
 use Rattle.std.proofs.lemmas.List.Elements.{All-more}
 use Rattle.std.specs.Prelude.{All, IsSome, None, Option, Some}
 use Rattle.outside.specs.Desk.{Texts}
 use Rattle.outside.specs.declared.status.Status.{Status}
+use Rattle.outside.specs.declared.status.Status.TheVariants as status
 use Rattle.csv_sheet.specs.Sheet.{sheet_in}
 use Rattle.file_config.specs.declared.config.FileEntry.{FileEntry}
 use Rattle.file_source.specs.declared.source.FileText.{FileText}
-use Rattle.file_run.specs.Runs.{HasText, IsText, shown_place, stream_behind, stream_of, streams_behind, streams_from}
+use Rattle.file_run.specs.Runs.{Added, AddsStream, HasText, IsText, Passed, RefusesStream, shown_place, stream_behind, stream_of, streams_behind, streams_from, streams_in}
 
 -- ---- a relation place by place
 
@@ -62,27 +66,96 @@ behind-err : (texts : List (List ℕ)) (why : Status) → streams_behind texts (
 behind-err [] why = refl
 behind-err (first ∷ texts) why = ap (stream_behind (Ok first)) (behind-err texts why)
 
--- the stream of the file at this place, and those of the others
-streams-at : (files : List FileText) (place : ℕ) (file : FileText) → place < length files → file ≡ get_or files place file
-    → streams_from place (drop place files) ≡ stream_behind (stream_of (shown_place place) file (sheet_in file.text)) (streams_from (place + 1) (drop (place + 1) files))
-streams-at files place file within here =
+-- ---- names in front
+
+none_some : {A : Type 0} (a : A) → None ≡ Some a → ⊥
+none_some a e = cc
+
+some_is : {A : Type 0} (a b : A) → Some a ≡ Some b → a ≡ b
+some_is a b e = cc
+
+by_cases : {P : Type 0} (b : Bool) → (b ≡ true → P) → (b ≡ false → P) → P
+by_cases true passed failed = passed refl
+by_cases false passed failed = failed refl
+
+-- a name that stands at a place is there
+some_any : (name : List ℕ) (names : List (List ℕ)) (place : ℕ) → slice_get names place ≡ Some name → list_any (bytes_eq name) names ≡ true
+some_any name [] place at = absurd (none_some name at)
+some_any name (first ∷ names) zero at = ap (λ (b : Bool). b || list_any (bytes_eq name) names) ((bytes_eq-Decides name first).1 (sym (some_is first name at)))
+some_any name (first ∷ names) (suc place) at =
+    by_cases (bytes_eq name first) (λ e. ap (λ (b : Bool). b || list_any (bytes_eq name) names) e) (λ e. ap (λ (b : Bool). b || list_any (bytes_eq name) names) e ∙ some_any name names place at)
+
+-- and one that stands nowhere is not
+none_any : (name : List ℕ) (names : List (List ℕ)) → ((place : ℕ) → ¬ (slice_get names place ≡ Some name)) → list_any (bytes_eq name) names ≡ false
+none_any name [] none = refl
+none_any name (first ∷ names) none =
+    by_cases (bytes_eq name first)
+    (λ e. absurd (none zero (ap (λ (n : List ℕ). Some n) (sym ((bytes_eq-Decides name first).0 e)))))
+    (λ e. ap (λ (b : Bool). b || list_any (bytes_eq name) names) e ∙ none_any name names (λ place. none (suc place)))
+
+none_has : (names : List (List ℕ)) (file : FileText) (name : List ℕ) → name ≡ file.name → ((at : ℕ) → ¬ (slice_get names at ≡ Some name)) → list_any (bytes_eq file.name) names ≡ false
+none_has names file name same none = ap (λ (n : List ℕ). list_any (bytes_eq n) names) (sym same) ∙ none_any name names none
+
+pub passes : (place at : ℕ) (file : FileText) (names texts : List (List ℕ)) (name : List ℕ) → name ≡ file.name → slice_get names at ≡ Some name → AddsStream place file names texts names texts
+passes place at file names texts name same there = Passed (ap (λ (n : List ℕ). list_any (bytes_eq n) names) (sym same) ∙ some_any name names at there) refl refl
+
+pub adds : (place : ℕ) (file : FileText) (names texts names_now texts_now : List (List ℕ)) (name put text : List ℕ) → name ≡ file.name → put ≡ file.name → ((at : ℕ) → ¬ (slice_get names at ≡ Some name)) → stream_of place file (sheet_in file.text) ≡ Ok text
+    → (names_now ≡ with_name names put) × (texts_now ≡ texts ++ text ∷ []) → AddsStream place file names texts names_now texts_now
+adds place file names texts names_now texts_now name put text same also none is now =
+    let apart : list_any (bytes_eq file.name) names ≡ false = none_has names file name same none in
+    Added apart (now.0 ∙ ap (with_name names) also ∙ ap (λ (b : Bool). cond b names (names ++ file.name ∷ [])) apart) text is now.1
+
+pub refuses : (place : ℕ) (file : FileText) (names : List (List ℕ)) (name : List ℕ) (why : Status) → name ≡ file.name → ((at : ℕ) → ¬ (slice_get names at ≡ Some name)) → (why ≡ status.NoMemory) ⊎ (stream_of place file (sheet_in file.text) ≡ Err why) → RefusesStream place file names why
+refuses place file names name why same none (inl memory) = inl memory
+refuses place file names name why same none (inr is) = inr (none_has names file name same none, is)
+
+-- ---- the file at a place
+
+-- it stands before the others
+streams-at : (files : List FileText) (place : ℕ) (names : List (List ℕ)) (file : FileText) → place < length files → file ≡ get_or files place file
+    → streams_from place names (drop place files) ≡ streams_from place names (file ∷ drop (place + 1) files)
+streams-at files place names file within here =
     let more : suc place ≡ place + 1 = omega arith in
-    ap (streams_from place) (drop-cons files place file within ∙ ap (λ (n : ℕ). get_or files place file ∷ drop n files) more ∙ ap (λ (f : FileText). f ∷ drop (place + 1) files) (sym here))
+    ap (streams_from place names) (drop-cons files place file within ∙ ap (λ (n : ℕ). get_or files place file ∷ drop n files) more ∙ ap (λ (f : FileText). f ∷ drop (place + 1) files) (sym here))
 
-pub streams-more : (files : List FileText) (place number : ℕ) (file : FileText) (texts now : List (List ℕ)) (text : List ℕ) → number ≡ shown_place place → place < length files → file ≡ get_or files place file
-    → stream_of number file (sheet_in file.text) ≡ Ok text → now ≡ texts ++ text ∷ [] → streams_from 0 files ≡ streams_behind texts (streams_from place (drop place files)) → streams_from 0 files ≡ streams_behind now (streams_from (place + 1) (drop (place + 1) files))
-streams-more files place number file texts now text shown within here is pushed so_far =
-    let rest = streams_from (place + 1) (drop (place + 1) files) in
-    let own = ap (λ (n : ℕ). stream_of n file (sheet_in file.text)) (sym shown) ∙ is in
-    so_far ∙ ap (streams_behind texts) (streams-at files place file within here ∙ ap (λ (r : Result (List ℕ) Status). stream_behind r rest) own)
-    ∙ (behind-push texts text rest ∙ ap (λ (ts : List (List ℕ)). streams_behind ts rest) (sym pushed))
+-- it is passed over
+passed_over : (files : List FileText) (place : ℕ) (names : List (List ℕ)) (file : FileText) → list_any (bytes_eq file.name) names ≡ true → streams_from place names (file ∷ files) ≡ streams_from (place + 1) names files
+passed_over files place names file there =
+    ap (λ (b : Bool). cond b (streams_from (place + 1) names files) (stream_behind (stream_of (shown_place place) file (sheet_in file.text)) (streams_from (place + 1) (names ++ file.name ∷ []) files))) there
 
-pub streams-refused : (files : List FileText) (place number : ℕ) (file : FileText) (texts : List (List ℕ)) (why : Status) → number ≡ shown_place place → place < length files → file ≡ get_or files place file
-    → stream_of number file (sheet_in file.text) ≡ Err why → streams_from 0 files ≡ streams_behind texts (streams_from place (drop place files)) → streams_from 0 files ≡ Err why
-streams-refused files place number file texts why shown within here is so_far =
-    let rest = streams_from (place + 1) (drop (place + 1) files) in
-    let own = ap (λ (n : ℕ). stream_of n file (sheet_in file.text)) (sym shown) ∙ is in
-    so_far ∙ ap (streams_behind texts) (streams-at files place file within here ∙ ap (λ (r : Result (List ℕ) Status). stream_behind r rest) own) ∙ behind-err texts why
+-- it counts
+counted : (files : List FileText) (place : ℕ) (names : List (List ℕ)) (file : FileText) → list_any (bytes_eq file.name) names ≡ false
+    → streams_from place names (file ∷ files) ≡ stream_behind (stream_of (shown_place place) file (sheet_in file.text)) (streams_from (place + 1) (names ++ file.name ∷ []) files)
+counted files place names file none =
+    ap (λ (b : Bool). cond b (streams_from (place + 1) names files) (stream_behind (stream_of (shown_place place) file (sheet_in file.text)) (streams_from (place + 1) (names ++ file.name ∷ []) files))) none
 
-pub streams-all : (files : List FileText) (place : ℕ) (texts : List (List ℕ)) → length files ≤ place → streams_from 0 files ≡ streams_behind texts (streams_from place (drop place files)) → streams_from 0 files ≡ Ok texts
-streams-all files place texts over so_far = so_far ∙ ap (λ (fs : List FileText). streams_behind texts (streams_from place fs)) (drop_all place files over) ∙ behind-ok texts
+pub streams-more : (files : List FileText) (place number : ℕ) (file : FileText) (names names_now texts texts_now : List (List ℕ)) → number ≡ shown_place place → place < length files → file ≡ get_or files place file
+    → AddsStream number file names texts names_now texts_now → streams_in files ≡ streams_behind texts (streams_from place names (drop place files)) → streams_in files ≡ streams_behind texts_now (streams_from (place + 1) names_now (drop (place + 1) files))
+streams-more files place number file names names_now texts texts_now shown within here step so_far =
+    so_far ∙ ap (streams_behind texts) (streams-at files place names file within here) ∙ by step
+  where
+    rest : List FileText
+    rest = drop (place + 1) files
+
+    by : AddsStream number file names texts names_now texts_now → streams_behind texts (streams_from place names (file ∷ rest)) ≡ streams_behind texts_now (streams_from (place + 1) names_now rest)
+    by (Passed there same kept) =
+        ap (streams_behind texts) (passed_over rest place names file there)
+        ∙ sym (ap (λ (ns : List (List ℕ)). streams_behind texts_now (streams_from (place + 1) ns rest)) same ∙ ap (λ (ts : List (List ℕ)). streams_behind ts (streams_from (place + 1) names rest)) kept)
+    by (Added none more text is pushed) =
+        let others = streams_from (place + 1) (names ++ file.name ∷ []) rest in
+        let own = ap (λ (n : ℕ). stream_of n file (sheet_in file.text)) (sym shown) ∙ is in
+        ap (streams_behind texts) (counted rest place names file none ∙ ap (λ (r : Result (List ℕ) Status). stream_behind r others) own)
+        ∙ behind-push texts text others
+        ∙ sym (ap (λ (ns : List (List ℕ)). streams_behind texts_now (streams_from (place + 1) ns rest)) more ∙ ap (λ (ts : List (List ℕ)). streams_behind ts others) pushed)
+
+pub streams-refused : (files : List FileText) (place number : ℕ) (file : FileText) (names texts : List (List ℕ)) (why : Status) → number ≡ shown_place place → place < length files → file ≡ get_or files place file
+    → RefusesStream number file names why → streams_in files ≡ streams_behind texts (streams_from place names (drop place files)) → (why ≡ status.NoMemory) ⊎ (streams_in files ≡ Err why)
+streams-refused files place number file names texts why shown within here (inl memory) so_far = inl memory
+streams-refused files place number file names texts why shown within here (inr is) so_far =
+    let rest = drop (place + 1) files in
+    let others = streams_from (place + 1) (names ++ file.name ∷ []) rest in
+    let own = ap (λ (n : ℕ). stream_of n file (sheet_in file.text)) (sym shown) ∙ is.1 in
+    inr (so_far ∙ ap (streams_behind texts) (streams-at files place names file within here ∙ counted rest place names file is.0 ∙ ap (λ (r : Result (List ℕ) Status). stream_behind r others) own) ∙ behind-err texts why)
+
+pub streams-all : (files : List FileText) (place : ℕ) (names texts : List (List ℕ)) → length files ≤ place → streams_in files ≡ streams_behind texts (streams_from place names (drop place files)) → streams_in files ≡ Ok texts
+streams-all files place names texts over so_far = so_far ∙ ap (λ (fs : List FileText). streams_behind texts (streams_from place names fs)) (drop_all place files over) ∙ behind-ok texts

@@ -20,7 +20,7 @@ use Rattle.file_config.specs.declared.config.FileEntry.{FileEntry}
 use Rattle.file_source.specs.Discovered.{failed_line, succeeded_line}
 use Rattle.file_source.specs.declared.source.FileText.{FileText}
 use Rattle.file_run.proofs.EndLemmas.{config_end, is_source_end}
-use Rattle.file_run.specs.Runs.{BadConfig, EndsBy, HasText, IsChecked, IsText, MayByConfig, MayCheck, NoConfig, Succeeded, MaySayOne, ReadsOnly, RefusesFiles, RunsAs, SaysRun, read_status}
+use Rattle.file_run.specs.Runs.{BadConfig, EndsBy, EndsSaid, HasText, IsChecked, IsText, MayByConfig, MayCheck, NoConfig, Succeeded, MaySayOne, ReadsOnly, RefusesFiles, RunsAs, SaysRun, read_status}
 
 -- a count that rose later has risen from before, and one that rose has risen still
 pub later_rose : (old mid new : ℕ) → old ≤ mid → Rose mid new → Rose old new
@@ -260,6 +260,18 @@ one_not_said why line failed old new fails cause front stays back = record {
     by : (new.said ≡ old.said) ⊎ (new.said ≡ told_more (line ∷ []) old.said) → SaysRun why (MaySayOne line) old new
     by (inl none) = record { left = anything; may = inl refl; said = none ∙ sym (told_more-none old.said); ends = ended cause }
     by (inr one) = record { left = behind_line line anything; may = inr (inl refl); said = one; ends = ended cause }
+
+-- what was said is written out, and that is all that ends it
+pub said_cause : (last result : Status) (mid new : DeskSeen) → EndsSaid last → WritesOut last result mid new → EndsSaid result
+said_cause last result mid new cause out = by out.is
+  where
+    by : (result ≡ last) ⊎ ((result ≡ status.WriteFault) × Rose mid.say_faults new.say_faults) → EndsSaid result
+    by (inl same) = subst (λ (s : Status). EndsSaid s) (sym same) cause
+    by (inr write) = inr (inr write.0)
+
+pub line_cause : (why : Status) → EndsLine why → EndsSaid why
+line_cause why (inl memory) = inr (inl memory)
+line_cause why (inr write) = inr (inr write)
 
 -- the lines of a feed were said, of which no row can fail to be read, and which does not end as the desk's faults do
 pub feed_said : (result : Status) (Gives : Left → Type 0) (May : Type 0 → Option Texts → Left → Type 0) (old new : DeskSeen) → ((told : Left) → Gives told → May (Rose old.read_faults new.read_faults) old.texts told)

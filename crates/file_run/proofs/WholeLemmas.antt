@@ -1,5 +1,7 @@
 -- A whole run: where its texts are valid and no fault was counted it ends well; and it answers `Usage` by its words alone.
-use Rattle.std.proofs.Common.{◌≡◌, ◌⊎◌, ◌↔◌, ◌∙◌, inl, inr, ℕ, ◌+◌, List, [], ◌∷◌, true, false, Option, None, Some, IfSome, Result, Ok, Err, is_some, refl, sym, ap, subst, arith}
+use Rattle.std.proofs.Common.{◌≡◌, ◌⊎◌, ◌↔◌, ◌∙◌, inl, inr, ℕ, ◌+◌, List, [], ◌∷◌, ◌++◌, if◌then◌else◌, Bool, true, false, Option, None, Some, IfSome, Result, Ok, Err, is_some, refl, sym, ap, subst, arith}
+use Rattle.std.specs.List.{list_any}
+use Rattle.std.specs.Str.{bytes_eq}
 use Rattle.basics.specs.Told.{Rose, RoseIf}
 use Rattle.outside.specs.Desk.{DeskSeen, SaysOnly, Texts}
 use Rattle.outside.specs.Feed.{Left, anything, nothing_left}
@@ -20,7 +22,7 @@ use Rattle.file_source.specs.Discovered.{discover_line}
 use Rattle.file_source.specs.Files.{StartsAt, file_named, opening}
 use Rattle.file_source.specs.declared.source.FileStart.{FileStart}
 use Rattle.file_source.specs.declared.source.FileText.{FileText}
-use Rattle.file_run.specs.Runs.{AllOpen, AreFiles, AreStates, AreValid, BadConfig, BeginsFiles, EndsBy, Files, HasFiles, IsFile, IsGiven, IsOkOrNoMemory, IsTold, IsValidRead, MayByConfig, MayDiscover, MayRead, MaySay, MaySayFiles, MaySayOne, MaySayStreams, RunsAs, shown_place, stream_behind, stream_of, streams_from}
+use Rattle.file_run.specs.Runs.{AllOpen, AreFiles, AreStates, AreValid, BadConfig, BeginsFiles, EndsBy, Files, HasFiles, IsFile, IsGiven, IsOkOrNoMemory, IsTold, IsValidRead, MayByConfig, MayDiscover, MayRead, MaySay, MaySayFiles, MaySayOne, MaySayStreams, RunsAs, shown_place, stream_behind, stream_of, streams_from, streams_in}
 use Rattle.file_run.specs.declared.run.Given.{Given}
 use Rattle.file_run.proofs.RunLemmas.{ends_now, feed_said, no_memory}
 use Rattle.file_run.proofs.EndLemmas.{EndsSo, OpensOf, RefusedSo, begins_end, config_end, config_ends, ends_as, files_end, is_source_end, never_ends, streams_end}
@@ -112,7 +114,7 @@ read_ends moment files given told valid may = by may.0 may.1 may.2
         let all = same_streams begins.streams begins.starts (begins.read.only (Ok (valid.streams, valid.starts)) valid.begins) in
         streams_end IsOk (OpensOf files) moment 0 begins.streams begins.starts refl (none_refused files 0 begins.streams begins.starts all) left begins.gives why (sym (ap (λ (l : Left). l.ends) same) ∙ is)
 
-streams_ok : (files : List FileText) (texts : List (List ℕ)) (told : Left) → streams_from 0 files ≡ Ok texts → MaySayStreams (streams_from 0 files) told → EndsSo IsOk told
+streams_ok : (files : List FileText) (texts : List (List ℕ)) (told : Left) → streams_in files ≡ Ok texts → MaySayStreams (streams_in files) told → EndsSo IsOk told
 streams_ok files texts told is may = one_ends IsOk (discover_line texts) told refl (subst (λ (r : Result (List (List ℕ)) Status). MaySayStreams r told) is may)
 
 ends_well : (moment : ℕ) (words : Option SourceAsked) (failed : Type 0) (by_name : Texts) (told : Left) → AreValid by_name words → MaySay moment words failed (Some by_name) told → EndsSo IsOk told
@@ -122,7 +124,7 @@ ends_well moment (Some (asked.Check config)) failed by_name told valid may = one
 ends_well moment (Some (asked.Discover config)) failed by_name told valid may =
     let same : valid.0 ≡ may.0 = same_some (by_name config) valid.0 may.0 valid.1 may.1 in
     let found : MayDiscover (Some by_name) valid.0 told = subst (λ (t : List ℕ). MayDiscover (Some by_name) t told) (sym same) may.2 in
-    streams_ok valid.2 valid.4 told valid.5 (by_files by_name valid.0 valid.2 (λ files. MaySayStreams (streams_from 0 files)) told valid.3 found)
+    streams_ok valid.2 valid.4 told valid.5 (by_files by_name valid.0 valid.2 (λ files. MaySayStreams (streams_in files)) told valid.3 found)
 ends_well moment (Some (asked.Read config catalog state)) failed by_name told valid may =
     let same : valid.0 ≡ may.0 = same_given by_name config catalog state valid.0 may.0 valid.1 may.1 in
     let found : MayRead (Some by_name) moment valid.0 told = subst (λ (g : Given). MayRead (Some by_name) moment g told) (sym same) may.2 in
@@ -161,29 +163,36 @@ both_end (Ok text) (Ok texts) why of_first of_others e = absurd (cc)
 both_end (Ok text) (Err w) why of_first of_others e = of_others why e
 both_end (Err w) others why of_first of_others e = of_first why (let same : w ≡ why = cc in ap Err same)
 
-streams_err : (files : List FileText) (place : ℕ) (why : Status) → streams_from place files ≡ Err why → is_source_end why ≡ true
-streams_err [] place why e = absurd (cc)
-streams_err (file ∷ files) place why e =
-    both_end (stream_of (shown_place place) file (sheet_in file.text)) (streams_from (place + 1) files) why (λ w is. stream_end (shown_place place) file (sheet_in file.text) w is) (λ w is. streams_err files (place + 1) w is) e
+one_of : (passed : Bool) (those these : Result (List (List ℕ)) Status) (why : Status) → (those ≡ Err why → is_source_end why ≡ true) → (these ≡ Err why → is_source_end why ≡ true) → (if passed then those else these) ≡ Err why → is_source_end why ≡ true
+one_of true those these why of_those of_these e = of_those e
+one_of false those these why of_those of_these e = of_these e
+
+streams_err : (files : List FileText) (place : ℕ) (names : List (List ℕ)) (why : Status) → streams_from place names files ≡ Err why → is_source_end why ≡ true
+streams_err [] place names why e = absurd (cc)
+streams_err (file ∷ files) place names why e =
+    let others = streams_from (place + 1) (names ++ file.name ∷ []) files in
+    one_of (list_any (bytes_eq file.name) names) (streams_from (place + 1) names files) (stream_behind (stream_of (shown_place place) file (sheet_in file.text)) others) why
+    (λ is. streams_err files (place + 1) names why is)
+    (λ is. both_end (stream_of (shown_place place) file (sheet_in file.text)) others why (λ w it. stream_end (shown_place place) file (sheet_in file.text) w it) (λ w it. streams_err files (place + 1) (names ++ file.name ∷ []) w it) is) e
 
 -- the streams of files are refused
-pub streams_not_said : (why : Status) (files : List FileText) (seen : DeskSeen) → (why ≡ status.NoMemory) ⊎ (streams_from 0 files ≡ Err why) → RunsAs why (λ failed texts. MaySayStreams (streams_from 0 files)) seen seen
-streams_not_said why files seen (inl memory) = subst (λ (s : Status). RunsAs s (λ failed texts. MaySayStreams (streams_from 0 files)) seen seen) (sym memory) (no_memory (λ failed texts. MaySayStreams (streams_from 0 files)) seen)
+pub streams_not_said : (why : Status) (files : List FileText) (seen : DeskSeen) → (why ≡ status.NoMemory) ⊎ (streams_in files ≡ Err why) → RunsAs why (λ failed texts. MaySayStreams (streams_in files)) seen seen
+streams_not_said why files seen (inl memory) = subst (λ (s : Status). RunsAs s (λ failed texts. MaySayStreams (streams_in files)) seen seen) (sym memory) (no_memory (λ failed texts. MaySayStreams (streams_in files)) seen)
 streams_not_said why files seen (inr is) =
-    ends_now why (λ failed texts. MaySayStreams (streams_from 0 files)) seen (λ e. not_own status.FileFault e refl) (λ e. not_own status.WriteFault e refl) (subst (λ (r : Result (List (List ℕ)) Status). MaySayStreams r (nothing_left why)) (sym is) refl)
+    ends_now why (λ failed texts. MaySayStreams (streams_in files)) seen (λ e. not_own status.FileFault e refl) (λ e. not_own status.WriteFault e refl) (subst (λ (r : Result (List (List ℕ)) Status). MaySayStreams r (nothing_left why)) (sym is) refl)
   where
     not_own : (other : Status) → why ≡ other → is_source_end other ≡ false → ⊥
-    not_own other e none = let own = streams_err files 0 why is in let same = ap is_source_end e in cc
+    not_own other e none = let own = streams_err files 0 [] why is in let same = ap is_source_end e in cc
 
-streams_source : (streams : Result (List (List ℕ)) Status) (files : List FileText) (told : Left) → streams_from 0 files ≡ streams → MaySayStreams streams told → EndsSo (λ why. is_source_end why ≡ true) told
+streams_source : (streams : Result (List (List ℕ)) Status) (files : List FileText) (told : Left) → streams_in files ≡ streams → MaySayStreams streams told → EndsSo (λ why. is_source_end why ≡ true) told
 streams_source (Ok texts) files told is may = one_ends (λ why. is_source_end why ≡ true) (discover_line texts) told refl may
-streams_source (Err why) files told is over = ends_as (λ w. is_source_end w ≡ true) told why (ap (λ (l : Left). l.ends) over) (streams_err files 0 why is)
+streams_source (Err why) files told is over = ends_as (λ w. is_source_end w ≡ true) told why (ap (λ (l : Left). l.ends) over) (streams_err files 0 [] why is)
 
 ends_by_source : (moment : ℕ) (command : SourceAsked) (failed : Type 0) (texts : Option Texts) (told : Left) → MaySay moment (Some command) failed texts told → EndsSo (λ why. is_source_end why ≡ true) told
 ends_by_source moment asked.Spec failed texts told may = one_ends (λ why. is_source_end why ≡ true) _ told refl may
 ends_by_source moment (asked.Check config) failed texts told may = one_ends (λ why. is_source_end why ≡ true) may.0 told refl may.2
 ends_by_source moment (asked.Discover config) failed texts told may =
-    config_ends (λ why. is_source_end why ≡ true) texts may.0 (λ files. MaySayStreams (streams_from 0 files)) told config_end (λ files found. streams_source (streams_from 0 files) files told refl found) may.2
+    config_ends (λ why. is_source_end why ≡ true) texts may.0 (λ files. MaySayStreams (streams_in files)) told config_end (λ files found. streams_source (streams_in files) files told refl found) may.2
 ends_by_source moment (asked.Read config catalog state) failed texts told may =
     config_ends (λ why. is_source_end why ≡ true) texts may.0.config (λ files. MaySayFiles moment files may.0) told config_end (λ files found. files_end moment files may.0 told found) may.2
 

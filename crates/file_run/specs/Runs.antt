@@ -1,6 +1,7 @@
 -- What a source of files may say, and how it ends, by its words, the texts of its desk, and the moment.
-use Rattle.std.specs.Prelude.{◌≡◌, ◌≢◌, ◌⊎◌, ⊤, ℕ, ◌+◌, ◌-◌, ◌^◌, min, List, [], ◌∷◌, All, Bool, true, false, Option, None, Some, IfSome, IsSome, Result, Ok, Err, codes, is_some}
-use Rattle.std.specs.List.{AllZip}
+use Rattle.std.specs.Prelude.{◌≡◌, ◌≢◌, ◌⊎◌, ⊤, ℕ, ◌+◌, ◌-◌, ◌^◌, min, List, [], ◌∷◌, ◌++◌, if◌then◌else◌, All, Bool, true, false, Option, None, Some, IfSome, IsSome, Result, Ok, Err, codes, is_some}
+use Rattle.std.specs.List.{AllZip, list_any}
+use Rattle.std.specs.Str.{bytes_eq}
 use Rattle.basics.specs.Told.{Rose, RoseIf, told_more}
 use Rattle.json_fields.specs.Answer.{IsOnly}
 use Rattle.outside.specs.Desk.{DeskSeen, Texts}
@@ -106,10 +107,17 @@ stream_behind (Ok text) (Ok texts) = Ok (text ∷ texts)
 stream_behind (Ok text) (Err why) = Err why
 stream_behind (Err why) others = Err why
 
--- the streams of files, of which the first has this place; or the first that is refused
-abbrev pub streams_from : ℕ → List FileText → Result (List (List ℕ)) Status
-streams_from place [] = Ok []
-streams_from place (file ∷ files) = stream_behind (stream_of (shown_place place) file (sheet_in file.text)) (streams_from (place + 1) files)
+-- The streams of files that stand behind ones of these names, of which the first has this place; or the first that is refused. Of two
+-- files of one name the first counts: the other is no stream, whatever its text.
+abbrev pub streams_from : ℕ → List (List ℕ) → List FileText → Result (List (List ℕ)) Status
+streams_from place names [] = Ok []
+streams_from place names (file ∷ files) =
+    if list_any (bytes_eq file.name) names then streams_from (place + 1) names files
+    else stream_behind (stream_of (shown_place place) file (sheet_in file.text)) (streams_from (place + 1) (names ++ file.name ∷ []) files)
+
+-- the streams of a configuration's files
+abbrev pub streams_in : List FileText → Result (List (List ℕ)) Status
+streams_in files = streams_from 0 [] files
 
 -- one line, and then all is well, or nothing is said of what comes
 abbrev pub MaySayOne : List ℕ → Left → Type 0
@@ -120,7 +128,7 @@ MaySayStreams (Ok texts) told = MaySayOne (discover_line texts) told
 MaySayStreams (Err why) told = told ≡ nothing_left why
 
 abbrev pub MayDiscover : Option Texts → List ℕ → Left → Type 0
-MayDiscover texts text told = MayByConfig texts text (λ files. MaySayStreams (streams_from 0 files)) told
+MayDiscover texts text told = MayByConfig texts text (λ files. MaySayStreams (streams_in files)) told
 
 -- ---- the command `check`
 
@@ -181,6 +189,14 @@ pub record RunsAs (result : Status) (May : Type 0 → Option Texts → Left → 
   pub say_stays : result ≢ status.WriteFault → new.say_faults ≡ old.say_faults
   pub texts : new.texts ≡ old.texts
 
+-- the commands that end where a text cannot be read
+abbrev pub EndsUnread : Option SourceAsked → Type 0
+EndsUnread (Some (asked.Discover config)) = Unit {0}
+EndsUnread (Some (asked.Read config catalog state)) = Unit {0}
+EndsUnread (Some asked.Spec) = ⊥
+EndsUnread (Some (asked.Check config)) = ⊥
+EndsUnread None = ⊥
+
 -- whether the words ask for `check`, which answers also where a text could not be read
 abbrev pub is_check : Option SourceAsked → Bool
 is_check (Some (asked.Check config)) = true
@@ -208,12 +224,16 @@ AreValid by_name (Some asked.Spec) = ⊤
 AreValid by_name (Some (asked.Check config)) = ⊤
 AreValid by_name (Some (asked.Discover config)) =
     (text : List ℕ) × (by_name config ≡ Some text) × (files : List FileText) × HasFiles (Some by_name) text files
-    × (streams : List (List ℕ)) × (streams_from 0 files ≡ Ok streams)
+    × (streams : List (List ℕ)) × (streams_in files ≡ Ok streams)
 AreValid by_name (Some (asked.Read config catalog state)) =
     (given : Given) × IsGiven (Some by_name) config catalog state given × (files : List FileText) × HasFiles (Some by_name) given.config files × IsValidRead files given
 
 abbrev pub IsOkOrNoMemory : Status → Type 0
 IsOkOrNoMemory result = (result ≡ status.Ok) ⊎ (result ≡ status.NoMemory)
+
+-- For private clauses: it answers Ok, or memory was wanting, or a line could not be said or written out.
+abbrev pub EndsSaid : Status → Type 0
+EndsSaid result = (result ≡ status.Ok) ⊎ (result ≡ status.NoMemory) ⊎ (result ≡ status.WriteFault)
 
 -- For private clauses: why the files of a configuration with this text were not read.
 abbrev pub RefusesFiles : Status → List ℕ → DeskSeen → DeskSeen → Type 0
@@ -224,3 +244,12 @@ RefusesFiles why text old new =
 abbrev pub streams_behind : List (List ℕ) → Result (List (List ℕ)) Status → Result (List (List ℕ)) Status
 streams_behind [] others = others
 streams_behind (text ∷ texts) others = stream_behind (Ok text) (streams_behind texts others)
+
+-- For private clauses: the stream of the file with this place was put behind others; or a file in front has its name, and nothing was.
+pub data AddsStream (place : ℕ) (file : FileText) (names texts names_now texts_now : List (List ℕ)) : Type 0 where
+  Passed : list_any (bytes_eq file.name) names ≡ true → names_now ≡ names → texts_now ≡ texts → AddsStream place file names texts names_now texts_now
+  Added : list_any (bytes_eq file.name) names ≡ false → names_now ≡ names ++ file.name ∷ [] → (text : List ℕ) → stream_of place file (sheet_in file.text) ≡ Ok text → texts_now ≡ texts ++ text ∷ [] → AddsStream place file names texts names_now texts_now
+
+-- For private clauses: memory was wanting, or the first file of a name is refused.
+abbrev pub RefusesStream : ℕ → FileText → List (List ℕ) → Status → Type 0
+RefusesStream place file names why = (why ≡ status.NoMemory) ⊎ ((list_any (bytes_eq file.name) names ≡ false) × (stream_of place file (sheet_in file.text) ≡ Err why))

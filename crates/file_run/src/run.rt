@@ -1,15 +1,19 @@
 // The top call of a source of files.
-ghost use Rattle.std.specs.Prelude.{◌≡◌, ◌≢◌, ◌⊎◌, ◌<◌, ◌^◌, ◌↔◌, All, Err, IfErr, IfOk, IfSome, IsErrOf, None, Ok, codes, false, map, option_copied, string_bytes};
+ghost use Rattle.std.specs.Prelude.{◌≡◌, ◌≢◌, ◌⊎◌, ◌<◌, ◌^◌, ◌↔◌, ◌++◌, [], ◌∷◌, All, Err, IfErr, IfOk, IfSome, IsErrOf, None, Ok, OnOk, codes, false, map, option_copied, string_bytes};
 ghost use Rattle.basics.specs.Told.{Rose};
 ghost use Rattle.outside.specs.declared.status.Status.TheVariants as status;
+ghost use Rattle.name_index.specs.Named.{with_name};
 ghost use Rattle.csv_sheet.specs.Sheet.{sheet_in};
 ghost use Rattle.cli_words.specs.Connectors.{source_asked};
 ghost use Rattle.outside.specs.declared.faults.ConfigFault.TheVariants as config;
 ghost use Rattle.file_source.specs.Discovered.{discover_line, failed_line, spec_line};
 ghost use Rattle.file_run.specs.Runs.{
+  AddsStream,
   AreFiles,
   AreStates,
   AreValid,
+  EndsSaid,
+  EndsUnread,
   HasFiles,
   HasText,
   IsChecked,
@@ -27,12 +31,13 @@ ghost use Rattle.file_run.specs.Runs.{
   MaySayStreams,
   ReadsOnly,
   RefusesFiles,
+  RefusesStream,
   RunsAs,
   is_check,
   read_status,
   shown_place,
   stream_of,
-  streams_from,
+  streams_in,
 };
 
 use basics::{Bytes, BytesList, Copies, NoMemory, Sequence, StreamNo};
@@ -42,6 +47,7 @@ use file_config::{FileConfig, FileEntry, read_file_config};
 use file_source::{
     FileSource, FileText, FileTextList, discovered, failed, file_text_of, specified, succeeded,
 };
+use name_index::NameIndex;
 use outside::{ConfigFault, Desk, Fault, Feed, Status};
 use say_feed::{say_feed, say_line, write_out};
 use source_lines::SourceFeed;
@@ -60,6 +66,7 @@ fn read_fault(fault: Fault) -> Status
 // Says the one line of a command, and writes it out.
 fn say_answer<K: Desk>(desk: &mut K, line: &[u8]) -> Status
     ensures runs { RunsAs result (λ failed by_name. MaySayOne line.now) (K.seen desk.old) (K.seen desk.new) }
+    ensures cause { EndsSaid result }
     ensures reads { (K.seen desk.new).read_faults ≡ (K.seen desk.old).read_faults }
 {
     match say_line(desk, line) {
@@ -146,6 +153,7 @@ fn checked<K: Desk>(alloc: Global, desk: &mut K, config: &str) -> Result<Bytes, 
 // The command `check`.
 fn run_check<K: Desk>(alloc: Global, desk: &mut K, config: &str) -> Status
     ensures runs { RunsAs result (λ failed by_name. MayCheck failed by_name config.now) (K.seen desk.old) (K.seen desk.new) }
+    ensures cause { EndsSaid result }
 {
     match checked(alloc, desk, config) {
         Ok(line) => say_answer(desk, line.as_slice()),
@@ -175,20 +183,60 @@ fn place_shown(place: usize) -> StreamNo
     place.min(u32::MAX as usize) as u32
 }
 
-// The streams of files.
-fn discover_files(alloc: Global, files: &[FileText]) -> Result<BytesList, Status>
-    ensures texts { IfOk result (λ texts. streams_from 0 files.now ≡ Ok texts) }
-    ensures refused { IfErr result (λ why. (why ≡ status.NoMemory) ⊎ (streams_from 0 files.now ≡ Err why)) }
+// Puts a name and a stream behind others.
+fn put_stream(
+    alloc: Global,
+    names: &mut NameIndex,
+    texts: &mut BytesList,
+    name: &str,
+    text: Bytes,
+) -> Result<(), NoMemory>
+    ensures { OnOk result ((names.new ≡ with_name names.old name.now) × (texts.new ≡ texts.old ++ text ∷ [])) }
 {
+    names.add(alloc, name)?;
+    texts.push(text)
+}
+
+// Puts the stream of the file with this place behind others, unless a file in front of it has its name.
+fn add_stream(
+    alloc: Global,
+    names: &mut NameIndex,
+    texts: &mut BytesList,
+    file: &FileText,
+    place: StreamNo,
+) -> Result<(), Status>
+    ensures added { IfOk result (λ _. AddsStream place file.now names.old texts.old names.new texts.new) }
+    ensures refused { IfErr result (RefusesStream place file.now names.old) }
+{
+    match names.find(file.name.as_str()) {
+        Some(_place) => Ok(()),
+        None => match discover_file(alloc, file, place) {
+            Ok(text) => match put_stream(alloc, names, texts, file.name.as_str(), text) {
+                Ok(()) => Ok(()),
+                Err(NoMemory) => Err(Status::NoMemory),
+            },
+            Err(why) => Err(why),
+        },
+    }
+}
+
+// The streams of files; of two with one name the first counts.
+fn discover_files(alloc: Global, files: &[FileText]) -> Result<BytesList, Status>
+    ensures texts { IfOk result (λ texts. streams_in files.now ≡ Ok texts) }
+    ensures refused { IfErr result (λ why. (why ≡ status.NoMemory) ⊎ (streams_in files.now ≡ Err why)) }
+{
+    let mut names = NameIndex::new(alloc);
     let mut texts = BytesList::new(alloc);
     for place in 0..files.len() {
-        let text = match discover_file(alloc, &files[place], place_shown(place)) {
-            Ok(text) => text,
-            Err(why) => return Err(why),
-        };
-        match texts.push(text) {
+        match add_stream(
+            alloc,
+            &mut names,
+            &mut texts,
+            &files[place],
+            place_shown(place),
+        ) {
             Ok(()) => {}
-            Err(NoMemory) => return Err(Status::NoMemory),
+            Err(why) => return Err(why),
         }
     }
     Ok(texts)
@@ -207,7 +255,7 @@ fn say_discovered<K: Desk>(alloc: Global, desk: &mut K, texts: &BytesList) -> St
 
 // Says the streams of files.
 fn say_streams<K: Desk>(alloc: Global, desk: &mut K, files: &[FileText]) -> Status
-    ensures runs { RunsAs result (λ failed by_name. MaySayStreams (streams_from 0 files.now)) (K.seen desk.old) (K.seen desk.new) }
+    ensures runs { RunsAs result (λ failed by_name. MaySayStreams (streams_in files.now)) (K.seen desk.old) (K.seen desk.new) }
     ensures reads { (K.seen desk.new).read_faults ≡ (K.seen desk.old).read_faults }
 {
     match discover_files(alloc, files) {
@@ -346,6 +394,7 @@ fn run_read_by<K: Desk>(
 // The command `spec`.
 fn run_spec<K: Desk>(alloc: Global, desk: &mut K) -> Status
     ensures runs { RunsAs result (λ failed by_name. MaySayOne spec_line) (K.seen desk.old) (K.seen desk.new) }
+    ensures cause { EndsSaid result }
     ensures reads { (K.seen desk.new).read_faults ≡ (K.seen desk.old).read_faults }
 {
     match specified(alloc) {
@@ -364,6 +413,7 @@ pub fn run_source<K: Desk>(alloc: Global, desk: &mut K, now_ms: u64, words: &[St
     ensures runs { RunsAs result (MaySay now_ms (source_asked (map string_bytes words.now))) (K.seen desk.old) (K.seen desk.new) }
     ensures reads { is_check (source_asked (map string_bytes words.now)) ≡ false → result ≢ status.FileFault → (K.seen desk.new).read_faults ≡ (K.seen desk.old).read_faults }
     ensures usage { (result ≡ status.Usage) ↔ (source_asked (map string_bytes words.now) ≡ None) }
+    ensures unread { result ≡ status.FileFault → EndsUnread (source_asked (map string_bytes words.now)) }
     ensures complete { IfSome (K.seen desk.old).texts (λ by_name. AreValid by_name (source_asked (map string_bytes words.now)) → ¬ Rose (K.seen desk.old).read_faults (K.seen desk.new).read_faults → ¬ Rose (K.seen desk.old).say_faults (K.seen desk.new).say_faults → IsOkOrNoMemory result) }
 {
     match source_words(words) {

@@ -1,4 +1,5 @@
 mod ResumeLemmas
+mod ReplayLemmas
 mod BlobLemmas
 mod ObjectLemmas
 mod RowLemmas

@@ -32,7 +32,7 @@ abbrev IsSome : List Row → Type 0
 IsSome [] = ⊥
 IsSome (row ∷ rows) = Unit {0}
 
-not_none : (row : Row) (rows : List Row) → ¬ ([] ≡ row ∷ rows)
+pub not_none : (row : Row) (rows : List Row) → ¬ ([] ≡ row ∷ rows)
 not_none row rows same = let P : List Row → Type 0 = IsSome in subst P (sym same) tt
 
 -- rows from behind a record on carry their numbers

@@ -95,6 +95,63 @@ const CASES: &[Case] = &[
         "{\"type\":\"CATALOG\",\"catalog\":{\"streams\":[{\"name\":\"a\",\"json_schema\":{\"type\":\"object\",\"properties\":{\"id\":{\"type\":\"string\"},\"the \\\"name\\\"\":{\"type\":\"string\"}}},\"supported_sync_modes\":[\"full_refresh\",\"incremental\"],\"source_defined_cursor\":true,\"is_resumable\":true},{\"name\":\"b\",\"json_schema\":{\"type\":\"object\",\"properties\":{}},\"supported_sync_modes\":[\"full_refresh\",\"incremental\"],\"source_defined_cursor\":true,\"is_resumable\":true}]}}\n0 Ok",
     ),
     (
+        "discover of two entries with one name",
+        &[
+            (
+                "c",
+                br#"{"files":[{"name":"a","path":"x"},{"name":"a","path":"y"}]}"#,
+            ),
+            ("x", b"id\n1\n"),
+            ("y", b"age\n2\n"),
+        ],
+        DISCOVER,
+        &[],
+        "{\"type\":\"CATALOG\",\"catalog\":{\"streams\":[{\"name\":\"a\",\"json_schema\":{\"type\":\"object\",\"properties\":{\"id\":{\"type\":\"string\"}}},\"supported_sync_modes\":[\"full_refresh\",\"incremental\"],\"source_defined_cursor\":true,\"is_resumable\":true}]}}\n0 Ok",
+    ),
+    (
+        "discover with a record that does not fit in the second entry of a name",
+        &[
+            (
+                "c",
+                br#"{"files":[{"name":"a","path":"x"},{"name":"a","path":"y"},{"name":"b","path":"z"}]}"#,
+            ),
+            ("x", b"id\n1\n"),
+            ("y", b"id\n1,2\n"),
+            ("z", b"n\n"),
+        ],
+        DISCOVER,
+        &[],
+        "{\"type\":\"CATALOG\",\"catalog\":{\"streams\":[{\"name\":\"a\",\"json_schema\":{\"type\":\"object\",\"properties\":{\"id\":{\"type\":\"string\"}}},\"supported_sync_modes\":[\"full_refresh\",\"incremental\"],\"source_defined_cursor\":true,\"is_resumable\":true},{\"name\":\"b\",\"json_schema\":{\"type\":\"object\",\"properties\":{\"n\":{\"type\":\"string\"}}},\"supported_sync_modes\":[\"full_refresh\",\"incremental\"],\"source_defined_cursor\":true,\"is_resumable\":true}]}}\n0 Ok",
+    ),
+    (
+        "discover with a record that does not fit behind the second entry of a name",
+        &[
+            (
+                "c",
+                br#"{"files":[{"name":"a","path":"x"},{"name":"a","path":"y"},{"name":"b","path":"z"}]}"#,
+            ),
+            ("x", b"id\n1\n"),
+            ("y", b"id\n1\n"),
+            ("z", b"n\n1\n1,2\n"),
+        ],
+        DISCOVER,
+        &[],
+        "9 BadRow stream 2 row 2",
+    ),
+    (
+        "discover with the second entry of a name missing",
+        &[
+            (
+                "c",
+                br#"{"files":[{"name":"a","path":"x"},{"name":"a","path":"y"}]}"#,
+            ),
+            ("x", b"id\n1\n"),
+        ],
+        DISCOVER,
+        &[],
+        "13 FileFault",
+    ),
+    (
         "discover of no file",
         &[("c", br#"{"files":[]}"#)],
         DISCOVER,
