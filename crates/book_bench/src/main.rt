@@ -1,37 +1,35 @@
-//! Times the book of a load: `book_bench STREAMS RECORDS`.
+//! Times the book of a load: `book_bench CATALOG`, with lines of messages on standard input.
 //!
-//! So many records of some 220 bytes, of so many streams in turn, and a state behind each thousand of them, go through a book whose
-//! dock keeps nothing. Says how many rows were committed and how many echoes emitted, and on standard error the nanoseconds that
-//! `accept`, `pick`, preparing and `put` took in all, in this order.
+//! The lines go through a book whose dock keeps nothing. Its echoes go to standard output, and to standard error the number of rows that
+//! were committed and the nanoseconds that `accept` (with the reading of standard input), `pick`, preparing and `put` took, in this order.
 #![tactic(auto)]
 
-mod dock;
-mod lines;
+mod keeper;
 
-use crate::dock::CountDock;
-use crate::lines::{catalog_of, records_of, states_of};
-use anyhow::{Context, Result, bail};
+use crate::keeper::EmptyKeeper;
+use anyhow::{Result, bail};
 use batch_prep::{Prepared, WorkItem, prepare};
 use book_rules::{Accepted, Put};
 use catalog::{Configured, read_configured};
 use dest_book::Book;
-use outside::Limits;
+use kept_dock::KeptDock;
+use outside::{Dock, Limits, StdSink, StdSource};
 use std::alloc::Global;
 use std::time::Instant;
+use std::{fs, io};
 
 const LIMITS: Limits = Limits {
-    slots: 4096,
+    slots: 4_096,
     bytes: 67_108_864,
-    batch: 1000,
+    batch: 1_000,
     workers: 1,
-    page: 1000,
+    page: 1_000,
 };
 
-const EVERY: u64 = 1000;
-
-// The nanoseconds that each kind of call took.
+// The rows that were committed, and the nanoseconds that each kind of call took.
 #[derive(Drop)]
-struct Times {
+struct Figures {
+    rows: u64,
     accept: u128,
     pick: u128,
     prepare: u128,
@@ -46,24 +44,18 @@ fn words_of(rt: &HostRuntime) -> Result<Vec<String>> {
     Ok(words)
 }
 
-fn catalog_for(alloc: Global, streams: u32) -> Result<Configured> {
-    let text = catalog_of(alloc, streams)?;
-    match read_configured(alloc, text.as_slice()) {
+fn catalog_in(alloc: Global, text: &[u8]) -> Result<Configured> {
+    match read_configured(alloc, text) {
         Ok(configured) => Ok(configured),
         Err(_) => bail!("the catalog is none"),
     }
 }
 
-fn started(rt: &HostRuntime, streams: u32, records: u64) -> Result<Book<CountDock>> {
-    let configured = catalog_for(rt.alloc(), streams)?;
-    let dock = CountDock::new(
-        rt.alloc(),
-        records_of(rt.alloc(), streams)?,
-        states_of(rt.alloc(), streams)?,
-        records,
-        EVERY,
-    );
-    match Book::start(rt.alloc(), dock, &configured, LIMITS) {
+fn started<D: Dock + Drop>(alloc: Global, dock: D, configured: &Configured) -> Result<Book<D>> {
+    if !LIMITS.are_limits() {
+        bail!("the limits are none");
+    }
+    match Book::start(alloc, dock, configured, LIMITS) {
         Ok(book) => Ok(book),
         Err(_) => bail!("the book was not started"),
     }
@@ -77,7 +69,11 @@ fn prepared(alloc: Global, item: WorkItem) -> Result<Prepared> {
 }
 
 // Accepts until a call has no line taken; whether the input has ended.
-fn fill(rt: &HostRuntime, book: &mut Book<CountDock>, times: &mut Times) -> Result<bool> {
+fn fill<D: Dock + Drop>(
+    rt: &HostRuntime,
+    book: &mut Book<D>,
+    figures: &mut Figures,
+) -> Result<bool> {
     let start = Instant::now(rt)?;
     let mut answer = book.accept();
     for _ in 0..u64::MAX {
@@ -86,7 +82,7 @@ fn fill(rt: &HostRuntime, book: &mut Book<CountDock>, times: &mut Times) -> Resu
         }
         answer = book.accept();
     }
-    times.accept = times.accept.saturating_add(start.elapsed(rt)?.as_nanos());
+    figures.accept = figures.accept.saturating_add(start.elapsed(rt)?.as_nanos());
     match answer {
         Accepted::End => Ok(true),
         Accepted::Full | Accepted::Took | Accepted::NotYet => Ok(false),
@@ -94,40 +90,63 @@ fn fill(rt: &HostRuntime, book: &mut Book<CountDock>, times: &mut Times) -> Resu
     }
 }
 
-// Hands out a batch, prepares it, and puts it; whether there was one.
-fn work(rt: &HostRuntime, book: &mut Book<CountDock>, times: &mut Times) -> Result<bool> {
-    let start = Instant::now(rt)?;
-    let picked = book.pick()?;
-    times.pick = times.pick.saturating_add(start.elapsed(rt)?.as_nanos());
-    let Some(item) = picked else {
-        return Ok(false);
-    };
-    let start = Instant::now(rt)?;
-    let done = prepared(rt.alloc(), item)?;
-    times.prepare = times.prepare.saturating_add(start.elapsed(rt)?.as_nanos());
+// Puts a batch that was prepared.
+fn put<D: Dock + Drop>(
+    rt: &HostRuntime,
+    book: &mut Book<D>,
+    done: Prepared,
+    figures: &mut Figures,
+) -> Result<()> {
+    let rows = done.rows().len() as u64;
     let start = Instant::now(rt)?;
     let answer = book.put(done);
-    times.put = times.put.saturating_add(start.elapsed(rt)?.as_nanos());
+    figures.put = figures.put.saturating_add(start.elapsed(rt)?.as_nanos());
+    figures.rows = figures.rows.saturating_add(rows);
     match answer {
-        Put::Done => Ok(true),
+        Put::Done => Ok(()),
         Put::Stranger(_) => bail!("a batch was a stranger"),
         Put::Broken(_) => bail!("the book is broken"),
     }
 }
 
-fn drain(rt: &HostRuntime, book: &mut Book<CountDock>, times: &mut Times) -> Result<()> {
+// Hands out a batch, prepares it, and puts it; whether there was one.
+fn work<D: Dock + Drop>(
+    rt: &HostRuntime,
+    book: &mut Book<D>,
+    figures: &mut Figures,
+) -> Result<bool> {
+    let start = Instant::now(rt)?;
+    let picked = book.pick()?;
+    figures.pick = figures.pick.saturating_add(start.elapsed(rt)?.as_nanos());
+    let Some(item) = picked else {
+        return Ok(false);
+    };
+    let start = Instant::now(rt)?;
+    let done = prepared(rt.alloc(), item)?;
+    figures.prepare = figures
+        .prepare
+        .saturating_add(start.elapsed(rt)?.as_nanos());
+    put(rt, book, done, figures)?;
+    Ok(true)
+}
+
+fn drain<D: Dock + Drop>(
+    rt: &HostRuntime,
+    book: &mut Book<D>,
+    figures: &mut Figures,
+) -> Result<()> {
     for _ in 0..u64::MAX {
-        if !work(rt, book, times)? {
+        if !work(rt, book, figures)? {
             return Ok(());
         }
     }
     Ok(())
 }
 
-fn run(rt: &HostRuntime, book: &mut Book<CountDock>, times: &mut Times) -> Result<()> {
+fn run<D: Dock + Drop>(rt: &HostRuntime, book: &mut Book<D>, figures: &mut Figures) -> Result<()> {
     for _ in 0..u64::MAX {
-        let is_over = fill(rt, book, times)?;
-        drain(rt, book, times)?;
+        let is_over = fill(rt, book, figures)?;
+        drain(rt, book, figures)?;
         if is_over {
             return Ok(());
         }
@@ -137,21 +156,27 @@ fn run(rt: &HostRuntime, book: &mut Book<CountDock>, times: &mut Times) -> Resul
 
 fn main(rt: HostRuntime) -> Result<()> {
     let words = words_of(&rt)?;
-    if words.len() != 2 {
-        bail!("usage: book_bench STREAMS RECORDS");
+    if words.len() != 1 {
+        bail!("usage: book_bench CATALOG");
     }
-    let streams = words[0].parse::<u32>().context("no number of streams")?;
-    let records = words[1].parse::<u64>().context("no number of records")?;
-    let mut book = started(&rt, streams, records)?;
-    let mut times = Times {
+    let text = fs::read(&rt, words[0].as_str())?;
+    let configured = catalog_in(rt.alloc(), &text)?;
+    let keeper = EmptyKeeper { alloc: rt.alloc() };
+    let source = StdSource::new(rt.reader());
+    let sink = StdSink::new(io::writer(&rt));
+    let dock = KeptDock::new(rt.alloc(), 0, keeper, source, sink)?;
+    let mut book = started(rt.alloc(), dock, &configured)?;
+    let mut figures = Figures {
+        rows: 0,
         accept: 0,
         pick: 0,
         prepare: 0,
         put: 0,
     };
-    run(&rt, &mut book, &mut times)?;
-    let dock = book.into_dock();
-    println!(rt; "rows {} echoes {}", dock.rows, dock.echoes)?;
-    eprintln!(rt; "{} {} {} {}", times.accept, times.pick, times.prepare, times.put)?;
+    run(&rt, &mut book, &mut figures)?;
+    eprintln!(rt;
+        "{} {} {} {} {}",
+        figures.rows, figures.accept, figures.pick, figures.prepare, figures.put
+    )?;
     Ok(())
 }

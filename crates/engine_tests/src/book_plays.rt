@@ -5,20 +5,37 @@ use book_rules::{Accepted, BookState, Put};
 use catalog::read_configured;
 use dest_book::Book;
 use json_write::put_number;
-use outside::{Event, Limits, SeqLineList, Status};
+use outside::{Event, HandDock, Limits, SeqLineList, Status};
 use outside_mem::MemDock;
 use std::alloc::Global;
+
+/// A line of the input.
+#[derive(Clone, Copy)]
+pub enum Line {
+    Text(&'static str),
+    /// A record of stream `a` with so many bytes.
+    Long(usize),
+}
+
+/// What stands behind the lines.
+#[derive(Clone, Copy)]
+pub enum Tail {
+    /// More may come.
+    Open,
+    End,
+    /// A piece that has no newline.
+    Torn(&'static str),
+}
+
+/// The lines of an input, and what stands behind them.
+pub type Input = (&'static [Line], Tail);
 
 /// What is done with a book.
 #[derive(Clone, Copy)]
 pub enum Act {
-    /// A line is pushed.
-    Push(&'static str),
-    /// A record of stream `a` with so many bytes is pushed.
-    PushLong(usize),
-    /// The input ends, with a piece that has no newline.
-    Close(Option<&'static str>),
     Accept,
+    /// The input ends.
+    Close,
     Pick,
     /// The batch that was picked at this place, from 0, is prepared and put.
     Put(usize),
@@ -117,14 +134,8 @@ fn act_on(
     told: &mut Bytes,
 ) -> Result<(), NoMemory> {
     match act {
-        Act::Push(line) => book.push_input(Bytes::copy_of(alloc, line.as_bytes())?),
-        Act::PushLong(len) => book.push_input(long_record(alloc, len)?),
-        Act::Close(None) => {
+        Act::Close => {
             book.close_input(None);
-            Ok(())
-        }
-        Act::Close(Some(torn)) => {
-            book.close_input(Some(Bytes::copy_of(alloc, torn.as_bytes())?));
             Ok(())
         }
         Act::Accept => {
@@ -200,46 +211,83 @@ fn put_state(alloc: Global, told: &mut Bytes, state: BookState) -> Result<(), No
     }
 }
 
-/// What a book over a new dock, whose calls with these numbers fail, answers to each act, with the lines that it emits, how it
-/// stands in the end, and the rows that were committed.
+// The bytes of a line.
+fn text_of(alloc: Global, line: Line) -> Result<Bytes, NoMemory> {
+    match line {
+        Line::Text(text) => Bytes::copy_of(alloc, text.as_bytes()),
+        Line::Long(len) => long_record(alloc, len),
+    }
+}
+
+// A new dock with this input, whose calls with these numbers fail.
+fn dock_with(alloc: Global, input: Input, fails: &[u64]) -> Result<MemDock, NoMemory> {
+    let mut failing = FailList::new(alloc);
+    for number in fails {
+        failing.push(*number)?;
+    }
+    let mut dock = MemDock::new(alloc, 0, failing)?;
+    let (lines, tail) = input;
+    for line in lines {
+        let text = text_of(alloc, *line)?;
+        dock.push_input(text)?;
+    }
+    match tail {
+        Tail::Open => {}
+        Tail::End => dock.close_input(None),
+        Tail::Torn(torn) => dock.close_input(Some(Bytes::copy_of(alloc, torn.as_bytes())?)),
+    }
+    Ok(dock)
+}
+
+// Does all this with a book that was started, and tells how it ends.
+fn play_book(
+    alloc: Global,
+    mut book: Book<MemDock>,
+    acts: &[Act],
+    told: &mut Bytes,
+) -> Result<(), NoMemory> {
+    let mut items = Vec::new(alloc);
+    for act in acts {
+        act_on(alloc, &mut book, &mut items, *act, told)?;
+        put_emitted(&mut book, told)?;
+    }
+    put_state(alloc, told, book.state())?;
+    put_rows(&book.into_dock(), told)
+}
+
+// The limits with these bounds.
+fn limits_of(bounds: Bounds) -> Limits {
+    let (slots, bytes, batch) = bounds;
+    Limits {
+        slots,
+        bytes,
+        batch,
+        workers: 1,
+        page: 10,
+    }
+}
+
+/// What a book over a new dock with this input, whose calls with these numbers fail, answers to each act, with the lines that it
+/// emits, how it stands in the end, and the rows that were committed.
 pub fn play(
     alloc: Global,
     catalog: &str,
     bounds: Bounds,
     fails: &[u64],
+    input: Input,
     acts: &[Act],
 ) -> Result<Bytes, NoMemory> {
     let mut told = Bytes::new(alloc);
     let Ok(configured) = read_configured(alloc, catalog.as_bytes()) else {
         return Ok(told);
     };
-    let (slots, bytes, batch) = bounds;
-    let limits = Limits {
-        slots,
-        bytes,
-        batch,
-        workers: 1,
-        page: 10,
-    };
+    let limits = limits_of(bounds);
     if !limits.are_limits() {
         return Ok(told);
     }
-    let mut failing = FailList::new(alloc);
-    for number in fails {
-        failing.push(*number)?;
-    }
-    let dock = MemDock::new(alloc, 0, failing)?;
+    let dock = dock_with(alloc, input, fails)?;
     match Book::start(alloc, dock, &configured, limits) {
-        Ok(mut book) => {
-            let mut items = Vec::new(alloc);
-            for act in acts {
-                act_on(alloc, &mut book, &mut items, *act, &mut told)?;
-                put_emitted(&mut book, &mut told)?;
-            }
-            put_state(alloc, &mut told, book.state())?;
-            let dock = book.into_dock();
-            put_rows(&dock, &mut told)?;
-        }
+        Ok(book) => play_book(alloc, book, acts, &mut told)?,
         Err((dock, status)) => {
             put_status(alloc, &mut told, b"refused ", status)?;
             put_rows(&dock, &mut told)?;

@@ -1,35 +1,51 @@
 // What a book answers, call by call, and which echoes it emits, as worked out by hand.
-use crate::book_plays::{Act, Bounds, play};
+use crate::book_plays::{Act, Bounds, Input, Line, Tail, play};
 use std::test::Fail;
 
-const ONE: &str = r#"{"streams":[{"stream":{"name":"a","json_schema":{"type":"object","properties":{"id":{"type":"integer"},"v":{"type":"number"}}},"supported_sync_modes":["incremental"]},"sync_mode":"incremental","destination_sync_mode":"append"}]}"#;
+const ONE: &str =
+    r#"{"streams":[{"stream":{"name":"a","json_schema":{"type":"object","properties":{"id":{"type":"integer"},"v":{"type":"number"}}},"supported_sync_modes":["incremental"]},"sync_mode":"incremental","destination_sync_mode":"append"}]}"#;
 
-const TWO: &str = r#"{"streams":[{"stream":{"name":"a","json_schema":{}},"sync_mode":"incremental","destination_sync_mode":"append"},{"stream":{"name":"b","json_schema":{}},"sync_mode":"incremental","destination_sync_mode":"append"}]}"#;
+const TWO: &str =
+    r#"{"streams":[{"stream":{"name":"a","json_schema":{}},"sync_mode":"incremental","destination_sync_mode":"append"},{"stream":{"name":"b","json_schema":{}},"sync_mode":"incremental","destination_sync_mode":"append"}]}"#;
 
 // A catalog whose stream is to have a generation of its own.
-const OVERWRITE: &str = r#"{"streams":[{"stream":{"name":"a","json_schema":{}},"sync_mode":"full_refresh","destination_sync_mode":"overwrite"}]}"#;
+const OVERWRITE: &str =
+    r#"{"streams":[{"stream":{"name":"a","json_schema":{}},"sync_mode":"full_refresh","destination_sync_mode":"overwrite"}]}"#;
 
 const RECORD_OF_A: &str =
     r#"{"type":"RECORD","record":{"stream":"a","data":{"id":1},"emitted_at":1}}"#;
+
 const RECORD_OF_B: &str =
     r#"{"type":"RECORD","record":{"stream":"b","data":{"id":1},"emitted_at":1}}"#;
-const RECORD_OF_ZZ: &str =
-    r#"{"type":"RECORD","record":{"stream":"zz","data":{},"emitted_at":1}}"#;
-const STATE_OF_A: &str = r#"{"type":"STATE","state":{"type":"STREAM","stream":{"stream_descriptor":{"name":"a"},"stream_state":{"n":1}},"sourceStats":{"recordCount":2}}}"#;
-const NEXT_STATE_OF_A: &str = r#"{"type":"STATE","state":{"type":"STREAM","stream":{"stream_descriptor":{"name":"a"},"stream_state":{"n":2}},"sourceStats":{"recordCount":1}}}"#;
-const STATE_OF_B: &str = r#"{"type":"STATE","state":{"type":"STREAM","stream":{"stream_descriptor":{"name":"b"},"stream_state":{"n":1}}}}"#;
-const GLOBAL_STATE: &str = r#"{"type":"STATE","state":{"type":"GLOBAL","global":{"shared_state":{"n":1},"stream_states":[]}}}"#;
+
+const RECORD_OF_ZZ: &str = r#"{"type":"RECORD","record":{"stream":"zz","data":{},"emitted_at":1}}"#;
+
+const STATE_OF_A: &str =
+    r#"{"type":"STATE","state":{"type":"STREAM","stream":{"stream_descriptor":{"name":"a"},"stream_state":{"n":1}},"sourceStats":{"recordCount":2}}}"#;
+
+const NEXT_STATE_OF_A: &str =
+    r#"{"type":"STATE","state":{"type":"STREAM","stream":{"stream_descriptor":{"name":"a"},"stream_state":{"n":2}},"sourceStats":{"recordCount":1}}}"#;
+
+const STATE_OF_B: &str =
+    r#"{"type":"STATE","state":{"type":"STREAM","stream":{"stream_descriptor":{"name":"b"},"stream_state":{"n":1}}}}"#;
+
+const GLOBAL_STATE: &str =
+    r#"{"type":"STATE","state":{"type":"GLOBAL","global":{"shared_state":{"n":1},"stream_states":[]}}}"#;
+
 const LEGACY_STATE: &str = r#"{"type":"STATE","state":{"data":{}}}"#;
-const STATUS_OF_ZZ: &str = r#"{"type":"TRACE","trace":{"type":"STREAM_STATUS","emitted_at":1,"stream_status":{"stream_descriptor":{"name":"zz"},"status":"COMPLETE"}}}"#;
+
+const STATUS_OF_ZZ: &str =
+    r#"{"type":"TRACE","trace":{"type":"STREAM_STATUS","emitted_at":1,"stream_status":{"stream_descriptor":{"name":"zz"},"status":"COMPLETE"}}}"#;
 
 // Room for a line of the greatest length, and little else.
 const SMALL: Bounds = (4, 20_971_520, 2);
 
-// A catalog, bounds, calls of the dock that fail, what is done, and what is answered.
+// A catalog, bounds, calls of the dock that fail, the input, what is done, and what is answered.
 type Row = (
     &'static str,
     Bounds,
     &'static [u64],
+    Input,
     &'static [Act],
     &'static str,
 );
@@ -40,12 +56,17 @@ const ROWS: &[Row] = &[
         ONE,
         SMALL,
         &[],
+        (
+            &[
+                Line::Text(RECORD_OF_A),
+                Line::Text(RECORD_OF_A),
+                Line::Text(STATE_OF_A),
+                Line::Text(RECORD_OF_A),
+                Line::Text(NEXT_STATE_OF_A),
+            ],
+            Tail::Open,
+        ),
         &[
-            Act::Push(RECORD_OF_A),
-            Act::Push(RECORD_OF_A),
-            Act::Push(STATE_OF_A),
-            Act::Push(RECORD_OF_A),
-            Act::Push(NEXT_STATE_OF_A),
             Act::Accept,
             Act::Accept,
             Act::Accept,
@@ -77,10 +98,15 @@ rows 1:2 1:0 1:1"#,
         ONE,
         SMALL,
         &[7],
+        (
+            &[
+                Line::Text(RECORD_OF_A),
+                Line::Text(RECORD_OF_A),
+                Line::Text(STATE_OF_A),
+            ],
+            Tail::Open,
+        ),
         &[
-            Act::Push(RECORD_OF_A),
-            Act::Push(RECORD_OF_A),
-            Act::Push(STATE_OF_A),
             Act::Accept,
             Act::Accept,
             Act::Accept,
@@ -102,10 +128,15 @@ rows 1:0 1:1"#,
         ONE,
         SMALL,
         &[6],
+        (
+            &[
+                Line::Text(RECORD_OF_A),
+                Line::Text(RECORD_OF_A),
+                Line::Text(STATE_OF_A),
+            ],
+            Tail::Open,
+        ),
         &[
-            Act::Push(RECORD_OF_A),
-            Act::Push(RECORD_OF_A),
-            Act::Push(STATE_OF_A),
             Act::Accept,
             Act::Accept,
             Act::Accept,
@@ -127,10 +158,15 @@ rows"#,
         TWO,
         SMALL,
         &[],
+        (
+            &[
+                Line::Text(RECORD_OF_A),
+                Line::Text(RECORD_OF_B),
+                Line::Text(GLOBAL_STATE),
+            ],
+            Tail::Open,
+        ),
         &[
-            Act::Push(RECORD_OF_A),
-            Act::Push(RECORD_OF_B),
-            Act::Push(GLOBAL_STATE),
             Act::Accept,
             Act::Accept,
             Act::Accept,
@@ -155,14 +191,15 @@ rows 1:0 1:1"#,
         TWO,
         SMALL,
         &[],
-        &[
-            Act::Push(STATE_OF_B),
-            Act::Push(RECORD_OF_A),
-            Act::Push(STATE_OF_B),
-            Act::Accept,
-            Act::Accept,
-            Act::Accept,
-        ],
+        (
+            &[
+                Line::Text(STATE_OF_B),
+                Line::Text(RECORD_OF_A),
+                Line::Text(STATE_OF_B),
+            ],
+            Tail::Open,
+        ),
+        &[Act::Accept, Act::Accept, Act::Accept],
         r#"took
 > {"type":"STATE","state":{"type":"STREAM","stream":{"stream_descriptor":{"name":"b"},"stream_state":{"n":1}},"destinationStats":{"recordCount":0}}}
 took
@@ -177,19 +214,19 @@ rows"#,
         ONE,
         SMALL,
         &[],
-        &[Act::Push(LEGACY_STATE), Act::Accept],
+        (&[Line::Text(LEGACY_STATE)], Tail::Open),
+        &[Act::Accept],
         "broken 4 BadInput Legacy line 1\nstays broken 4 BadInput Legacy line 1\nrows",
     ),
     (
         ONE,
         SMALL,
         &[],
-        &[
-            Act::Push(GLOBAL_STATE),
-            Act::Push(STATE_OF_B),
-            Act::Accept,
-            Act::Accept,
-        ],
+        (
+            &[Line::Text(GLOBAL_STATE), Line::Text(STATE_OF_B)],
+            Tail::Open,
+        ),
+        &[Act::Accept, Act::Accept],
         r#"took
 > {"type":"STATE","state":{"type":"GLOBAL","global":{"shared_state":{"n":1},"stream_states":[]},"destinationStats":{"recordCount":0}}}
 broken 4 BadInput Mixed line 2
@@ -200,26 +237,27 @@ rows"#,
         ONE,
         SMALL,
         &[],
-        &[
-            Act::Push(STATUS_OF_ZZ),
-            Act::Push(RECORD_OF_ZZ),
-            Act::Accept,
-            Act::Accept,
-        ],
+        (
+            &[Line::Text(STATUS_OF_ZZ), Line::Text(RECORD_OF_ZZ)],
+            Tail::Open,
+        ),
+        &[Act::Accept, Act::Accept],
         "took\nbroken 4 BadInput UnknownStream line 2\nstays broken 4 BadInput UnknownStream line 2\nrows",
     ),
     (
         ONE,
         SMALL,
         &[],
-        &[Act::Push(STATE_OF_B), Act::Accept],
+        (&[Line::Text(STATE_OF_B)], Tail::Open),
+        &[Act::Accept],
         "broken 4 BadInput UnknownStream line 1\nstays broken 4 BadInput UnknownStream line 1\nrows",
     ),
     (
         ONE,
         SMALL,
         &[],
-        &[Act::Push("hello"), Act::Accept],
+        (&[Line::Text("hello")], Tail::Open),
+        &[Act::Accept],
         "broken 4 BadInput BadLine line 1\nstays broken 4 BadInput BadLine line 1\nrows",
     ),
     // A last piece without a newline counts where it is a message, is nothing where it is blank, and is torn where it is none.
@@ -227,9 +265,8 @@ rows"#,
         ONE,
         SMALL,
         &[],
+        (&[Line::Text(RECORD_OF_A)], Tail::Torn(RECORD_OF_A)),
         &[
-            Act::Push(RECORD_OF_A),
-            Act::Close(Some(RECORD_OF_A)),
             Act::Accept,
             Act::Accept,
             Act::Accept,
@@ -243,21 +280,19 @@ rows"#,
         ONE,
         SMALL,
         &[],
-        &[Act::Close(Some(" \t")), Act::Accept],
+        (&[], Tail::Torn(" \t")),
+        &[Act::Accept],
         "end\nended\nrows",
     ),
     (
         ONE,
         SMALL,
         &[],
-        &[
-            Act::Push(RECORD_OF_A),
-            Act::Close(Some(
-                r#"{"type":"RECORD","record":{"stream":"a","data":{},"emitted_at":1}"#,
-            )),
-            Act::Accept,
-            Act::Accept,
-        ],
+        (
+            &[Line::Text(RECORD_OF_A)],
+            Tail::Torn(r#"{"type":"RECORD","record":{"stream":"a","data":{},"emitted_at":1}"#),
+        ),
+        &[Act::Accept, Act::Accept],
         "took\nbroken 4 BadInput TornTail line 2\nstays broken 4 BadInput TornTail line 2\nrows",
     ),
     // Four slots, and batches of four: the fifth record waits until the batch is committed.
@@ -265,12 +300,17 @@ rows"#,
         ONE,
         (4, 20_971_520, 4),
         &[],
+        (
+            &[
+                Line::Text(RECORD_OF_A),
+                Line::Text(RECORD_OF_A),
+                Line::Text(RECORD_OF_A),
+                Line::Text(RECORD_OF_A),
+                Line::Text(RECORD_OF_A),
+            ],
+            Tail::Open,
+        ),
         &[
-            Act::Push(RECORD_OF_A),
-            Act::Push(RECORD_OF_A),
-            Act::Push(RECORD_OF_A),
-            Act::Push(RECORD_OF_A),
-            Act::Push(RECORD_OF_A),
             Act::Accept,
             Act::Accept,
             Act::Accept,
@@ -289,9 +329,11 @@ rows"#,
         ONE,
         SMALL,
         &[],
+        (
+            &[Line::Text(RECORD_OF_A), Line::Text(RECORD_OF_A)],
+            Tail::Open,
+        ),
         &[
-            Act::Push(RECORD_OF_A),
-            Act::Push(RECORD_OF_A),
             Act::Accept,
             Act::Accept,
             Act::Pick,
@@ -310,10 +352,15 @@ rows"#,
         ONE,
         SMALL,
         &[],
+        (
+            &[
+                Line::Text(RECORD_OF_A),
+                Line::Text(RECORD_OF_A),
+                Line::Text(STATE_OF_A),
+            ],
+            Tail::Open,
+        ),
         &[
-            Act::Push(RECORD_OF_A),
-            Act::Push(RECORD_OF_A),
-            Act::Push(STATE_OF_A),
             Act::Accept,
             Act::Accept,
             Act::Accept,
@@ -334,27 +381,41 @@ rows 1:0 1:1"#,
         ONE,
         SMALL,
         &[],
-        &[
-            Act::Push(RECORD_OF_A),
-            Act::Close(None),
-            Act::Accept,
-            Act::Pick,
-            Act::Accept,
-            Act::Pick,
-            Act::Put(0),
-        ],
+        (&[Line::Text(RECORD_OF_A)], Tail::End),
+        &[Act::Accept, Act::Pick, Act::Accept, Act::Pick, Act::Put(0)],
         "took\nnone\nend\nbatch 0\ndone\nended\nrows 1:0",
     ),
     // The first calls of the dock read the marks and open the load.
-    (ONE, SMALL, &[1], &[], "refused 5 StoreFault\nrows"),
-    (ONE, SMALL, &[2], &[], "refused 5 StoreFault\nrows"),
-    (OVERWRITE, SMALL, &[], &[Act::Accept], "not yet\nrunning\nrows"),
+    (
+        ONE,
+        SMALL,
+        &[1],
+        (&[], Tail::Open),
+        &[],
+        "refused 5 StoreFault\nrows",
+    ),
+    (
+        ONE,
+        SMALL,
+        &[2],
+        (&[], Tail::Open),
+        &[],
+        "refused 5 StoreFault\nrows",
+    ),
+    (
+        OVERWRITE,
+        SMALL,
+        &[],
+        (&[], Tail::Open),
+        &[Act::Accept],
+        "not yet\nrunning\nrows",
+    ),
 ];
 
 #[test]
 fn books_answer_as_worked(rt: HostRuntime) -> Result<(), Fail> {
-    for (catalog, bounds, fails, acts, told) in ROWS {
-        let found = play(rt.alloc(), catalog, *bounds, fails, acts)?;
+    for (catalog, bounds, fails, input, acts, told) in ROWS {
+        let found = play(rt.alloc(), catalog, *bounds, fails, *input, acts)?;
         assert_eq!(rt; found.as_slice(), told.as_bytes(), "{told}");
     }
     Ok(())
@@ -362,30 +423,31 @@ fn books_answer_as_worked(rt: HostRuntime) -> Result<(), Fail> {
 
 #[test]
 fn long_lines_are_taken_up_to_the_limit(rt: HostRuntime) -> Result<(), Fail> {
-    for (acts, told) in [
+    for (lines, acts, told) in [
         (
-            &[Act::PushLong(20_971_520), Act::Accept, Act::Close(None), Act::Accept, Act::Pick, Act::Put(0)][..],
+            &[Line::Long(20_971_520)][..],
+            &[Act::Accept, Act::Close, Act::Accept, Act::Pick, Act::Put(0)][..],
             "took\nend\nbatch 0\ndone\nended\nrows 1:0",
         ),
         (
-            &[Act::PushLong(20_971_521), Act::Accept][..],
+            &[Line::Long(20_971_521)],
+            &[Act::Accept],
             "broken 4 BadInput TooLong line 1\nstays broken 4 BadInput TooLong line 1\nrows",
         ),
         // Beside a record of 20,000,000 bytes there is no room for one of 1,000,000.
         (
+            &[Line::Long(20_000_000), Line::Long(1_000_000)],
             &[
-                Act::PushLong(20_000_000),
-                Act::PushLong(1_000_000),
                 Act::Accept,
                 Act::Accept,
                 Act::Pick,
                 Act::Put(0),
                 Act::Accept,
-            ][..],
+            ],
             "took\nfull\nbatch 0\ndone\ntook\nrunning\nrows 1:0",
         ),
     ] {
-        let found = play(rt.alloc(), ONE, SMALL, &[], acts)?;
+        let found = play(rt.alloc(), ONE, SMALL, &[], (lines, Tail::Open), acts)?;
         assert_eq!(rt; found.as_slice(), told.as_bytes(), "{told}");
     }
     Ok(())
