@@ -126,6 +126,68 @@ fn put_batch(
     put_put(alloc, told, answer)
 }
 
+// Accepts, and tells what became of it.
+fn accept_on(alloc: Global, book: &mut Book<MemDock>, told: &mut Bytes) -> Result<(), NoMemory> {
+    let answer = book.accept();
+    put_accepted(alloc, told, answer)
+}
+
+// Keeps a batch that was picked, and tells its records.
+fn keep(
+    items: &mut Vec<Option<WorkItem>>,
+    item: WorkItem,
+    told: &mut Bytes,
+) -> Result<(), NoMemory> {
+    put_item(told, &item)?;
+    items.push(Some(item))?;
+    Ok(())
+}
+
+fn pick_on(
+    book: &mut Book<MemDock>,
+    items: &mut Vec<Option<WorkItem>>,
+    told: &mut Bytes,
+) -> Result<(), NoMemory> {
+    match book.pick()? {
+        Some(item) => keep(items, item, told),
+        None => told.extend(b"none\n"),
+    }
+}
+
+// Puts a batch that was picked, and tells what became of it; or that none was held.
+fn put_on(
+    alloc: Global,
+    book: &mut Book<MemDock>,
+    held: Option<WorkItem>,
+    told: &mut Bytes,
+) -> Result<(), NoMemory> {
+    match held {
+        Some(item) => put_batch(alloc, book, item, told),
+        None => told.extend(b"?\n"),
+    }
+}
+
+// The same item with no line.
+fn emptied(alloc: Global, held: Option<WorkItem>) -> Option<WorkItem> {
+    let mut item = held?;
+    item.lines = SeqLineList::new(alloc);
+    Some(item)
+}
+
+fn give_back_on(
+    book: &mut Book<MemDock>,
+    held: Option<WorkItem>,
+    told: &mut Bytes,
+) -> Result<(), NoMemory> {
+    let Some(item) = held else {
+        return told.extend(b"?\n");
+    };
+    match book.give_back(item) {
+        None => told.extend(b"sealed\n"),
+        Some(_) => told.extend(b"back\n"),
+    }
+}
+
 fn act_on(
     alloc: Global,
     book: &mut Book<MemDock>,
@@ -134,45 +196,18 @@ fn act_on(
     told: &mut Bytes,
 ) -> Result<(), NoMemory> {
     match act {
-        Act::Close => {
-            book.close_input(None);
-            Ok(())
+        Act::Close => book.close_input(None),
+        Act::Recall => book.recall(),
+        Act::Accept => accept_on(alloc, book, told)?,
+        Act::Pick => pick_on(book, items, told)?,
+        Act::Put(place) => put_on(alloc, book, take_item(items, place), told)?,
+        Act::PutEmptied(place) => {
+            let held = emptied(alloc, take_item(items, place));
+            put_on(alloc, book, held, told)?;
         }
-        Act::Accept => {
-            let answer = book.accept();
-            put_accepted(alloc, told, answer)
-        }
-        Act::Pick => match book.pick()? {
-            Some(item) => {
-                put_item(told, &item)?;
-                items.push(Some(item))?;
-                Ok(())
-            }
-            None => told.extend(b"none\n"),
-        },
-        Act::Put(place) => match take_item(items, place) {
-            Some(item) => put_batch(alloc, book, item, told),
-            None => told.extend(b"?\n"),
-        },
-        Act::PutEmptied(place) => match take_item(items, place) {
-            Some(mut item) => {
-                item.lines = SeqLineList::new(alloc);
-                put_batch(alloc, book, item, told)
-            }
-            None => told.extend(b"?\n"),
-        },
-        Act::GiveBack(place) => match take_item(items, place) {
-            Some(item) => match book.give_back(item) {
-                None => told.extend(b"sealed\n"),
-                Some(_) => told.extend(b"back\n"),
-            },
-            None => told.extend(b"?\n"),
-        },
-        Act::Recall => {
-            book.recall();
-            Ok(())
-        }
+        Act::GiveBack(place) => give_back_on(book, take_item(items, place), told)?,
     }
+    Ok(())
 }
 
 fn put_emitted(book: &mut Book<MemDock>, told: &mut Bytes) -> Result<(), NoMemory> {
