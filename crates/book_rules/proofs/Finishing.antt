@@ -261,13 +261,13 @@ shows_went false stream result book new m s quiet w = went_as IsFinishRun book.c
 
 -- Finishes
 
-by_went : (merged : Result (Unit {0}) MergeFault) (plan : StreamPlan) (to_show : Bool) (stream : ℕ) (result : Result Finished Status) (book : BookView) (seen : DockSeen) (new : BookView) (m : Machine) → MergesWhere plan.dedup merged stream book.limits.page book.seen seen → ShowsBehind merged to_show stream result (record book { seen = seen }) new → IsQuiet m → IsWhole book m → Went IsFinishRun book.catalog new m
-by_went (Ok done) plan to_show stream result book seen new m merges shows quiet w =
-    let l = where_lead plan.dedup stream book.limits.page book m seen merges w in
+by_went : (merged : Result (Unit {0}) MergeFault) (dedup : Bool) (to_show : Bool) (stream : ℕ) (result : Result Finished Status) (book : BookView) (seen : DockSeen) (new : BookView) (m : Machine) → MergesWhere dedup merged stream book.limits.page book.seen seen → ShowsBehind merged to_show stream result (record book { seen = seen }) new → IsQuiet m → IsWhole book m → Went IsFinishRun book.catalog new m
+by_went (Ok done) dedup to_show stream result book seen new m merges shows quiet w =
+    let l = where_lead dedup stream book.limits.page book m seen merges w in
     let now : Machine = run book.catalog l.steps m in
     let then = shows_went to_show stream result (record book { seen = seen }) new now shows (turned_quiet book.catalog l.steps m l.all quiet) l.leads in
     record { steps = l.steps ++ then.steps; shaped = all_append IsTurning l.steps then.steps l.all then.shaped; leads = subst (IsBookOf new) (sym (runs_grow book.catalog l.steps then.steps m)) then.leads }
-by_went (Err stop) plan to_show stream result book seen new m merges shows quiet w = went_as IsFinishRun book.catalog (broke (record book { seen = seen }) (merge_stop stop)) new m shows.is (where_breaks plan.dedup stop stream book.limits.page book m seen merges w)
+by_went (Err stop) dedup to_show stream result book seen new m merges shows quiet w = went_as IsFinishRun book.catalog (broke (record book { seen = seen }) (merge_stop stop)) new m shows.is (where_breaks dedup stop stream book.limits.page book m seen merges w)
 
 still_went : (old new : BookView) (m : Machine) → new ≡ old → IsBookOf old m → Went IsFinishRun old.catalog new m
 still_went old new m same is = record { steps = []; shaped = tt; leads = subst (λ (it : BookView). IsBookOf it m) (sym same) is }
@@ -276,7 +276,7 @@ unless_went : (broken : Option Status) (drained complete : Bool) (stream : ℕ) 
 unless_went (Some first) drained complete stream result old new m broken f is = still_went old new m f.1 is
 unless_went None false complete stream result old new m broken f is = still_went old new m f.1 is
 unless_went None true false stream result old new m broken f is = still_went old new m f.1 is
-unless_went None true true stream result old new m broken f is = by_went f.finishes.merged f.plan (is_to_show stream f.plan old) stream result old f.finishes.seen new m f.finishes.merges f.finishes.shows (is.quiet broken) (whole_of old m broken is)
+unless_went None true true stream result old new m broken f is = by_went f.finishes.merged f.plan.dedup (is_to_show stream f.plan.hidden old) stream result old f.finishes.seen new m f.finishes.merges f.finishes.shows (is.quiet broken) (whole_of old m broken is)
 
 runs : (stream : ℕ) (result : Result Finished Status) (old new : BookView) → FinishAnswer stream result old new → Runs IsFinishRun old new
 runs stream result old new answer m is = went_runs IsFinishRun old new m (unless_went old.tally.broken (is_drained old) (is_complete_in stream old) stream result old new m refl answer is)
@@ -330,7 +330,7 @@ unless_stays : (broken : Option Status) (drained complete : Bool) (stream : ℕ)
 unless_stays (Some first) drained complete stream result old new f = stays_same old new f.1
 unless_stays None false complete stream result old new f = stays_same old new f.1
 unless_stays None true false stream result old new f = stays_same old new f.1
-unless_stays None true true stream result old new f = behind_stays f.finishes.merged (is_to_show stream f.plan old) stream result old f.finishes.seen new (where_stays f.plan.dedup f.finishes.merged stream old.limits.page old.seen f.finishes.seen f.finishes.merges) f.finishes.shows
+unless_stays None true true stream result old new f = behind_stays f.finishes.merged (is_to_show stream f.plan.hidden old) stream result old f.finishes.seen new (where_stays f.plan.dedup f.finishes.merged stream old.limits.page old.seen f.finishes.seen f.finishes.merges) f.finishes.shows
 
 stays : (stream : ℕ) (result : Result Finished Status) (old new : BookView) → FinishAnswer stream result old new → Stays old new
 stays stream result old new answer = unless_stays old.tally.broken (is_drained old) (is_complete_in stream old) stream result old new answer

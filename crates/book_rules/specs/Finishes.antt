@@ -89,8 +89,8 @@ is_marked (Some flag) = flag
 is_marked None = false
 
 -- the plan hides the stream, and it was not shown yet
-abbrev pub is_to_show : ℕ → StreamPlan → BookView → Bool
-is_to_show stream plan book = plan.hidden && not (is_marked (slice_get book.shown stream))
+abbrev pub is_to_show : ℕ → Bool → BookView → Bool
+is_to_show stream hidden book = hidden && not (is_marked (slice_get book.shown stream))
 
 -- Answers
 
@@ -137,17 +137,17 @@ abbrev pub ShowsBehind : {T : Type 0} → Result T MergeFault → Bool → ℕ �
 ShowsBehind (Ok done) to_show stream result old new = ShowsWhere to_show stream result old new
 ShowsBehind (Err stop) to_show stream result old new = BreaksFinish (merge_stop stop) result old new
 
--- a stream of this plan is merged, where it is deduplicated, and then shown, where it is to be
-pub record FinishesBy (plan : StreamPlan) (stream : ℕ) (result : Result Finished Status) (old new : BookView) : Type 0 where
+-- a stream is merged, where it is deduplicated, and then shown, where its plan hides it and it was not shown yet
+pub record FinishesBy (dedup hidden : Bool) (stream : ℕ) (result : Result Finished Status) (old new : BookView) : Type 0 where
   pub merged : Result (Unit {0}) MergeFault
   pub seen : DockSeen
-  pub merges : MergesWhere plan.dedup merged stream old.limits.page old.seen seen
-  pub shows : ShowsBehind merged (is_to_show stream plan old) stream result (record old { seen = seen }) new
+  pub merges : MergesWhere dedup merged stream old.limits.page old.seen seen
+  pub shows : ShowsBehind merged (is_to_show stream hidden old) stream result (record old { seen = seen }) new
 
 pub record Finishes (stream : ℕ) (result : Result Finished Status) (old new : BookView) : Type 0 where
   pub plan : StreamPlan
   pub planned : slice_get old.opening.plan stream ≡ Some plan
-  pub finishes : FinishesBy plan stream result old new
+  pub finishes : FinishesBy plan.dedup plan.hidden stream result old new
 
 abbrev pub FinishUnless : Option Status → Bool → Bool → ℕ → Result Finished Status → BookView → BookView → Type 0
 FinishUnless (Some first) drained complete stream result old new = (result ≡ Err first) × (new ≡ old)
