@@ -283,7 +283,7 @@ runs stream result old new answer m is = went_runs IsFinishRun old new m (unless
 
 -- What stays
 
-one_stays : (result : Result MergedPage MergeFault) (stream page : ℕ) (old new : DockSeen) → MergesOne result stream page old new → SeenStays old new
+pub one_stays : (result : Result MergedPage MergeFault) (stream page : ℕ) (old new : DockSeen) → MergesOne result stream page old new → SeenStays old new
 one_stays result stream page old new p = record { many = at result p.merges; moves = p.moves; grew = p.grew }
   where
     at : (result : Result MergedPage MergeFault) → PageAdds result stream page old new → length new.face.side_marks ≡ length old.face.side_marks
@@ -298,7 +298,7 @@ to_stays (suc count) stream page old new r = seen_both old r.0 new (to_stays cou
 up_to_stays : (last : Result MergedPage MergeFault) (stream page : ℕ) (old new : DockSeen) → MergesUpTo last stream page old new → SeenStays old new
 up_to_stays last stream page old new r = seen_both old r.mid new (to_stays r.count stream page old r.mid r.merges) (one_stays last stream page r.mid new r.ends)
 
-where_stays : (dedup : Bool) (merged : Result (Unit {0}) MergeFault) (stream page : ℕ) (old new : DockSeen) → MergesWhere dedup merged stream page old new → SeenStays old new
+pub where_stays : (dedup : Bool) (merged : Result (Unit {0}) MergeFault) (stream page : ℕ) (old new : DockSeen) → MergesWhere dedup merged stream page old new → SeenStays old new
 where_stays true (Ok done) stream page old new r = up_to_stays _ stream page old new r
 where_stays true (Err stop) stream page old new r = up_to_stays _ stream page old new r
 where_stays false (Ok done) stream page old new same = seen_is old new same
