@@ -6,3 +6,4 @@ pub mod Committing
 pub mod Putting
 pub mod Taking
 pub mod Starting
+pub mod Ending

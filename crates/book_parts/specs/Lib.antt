@@ -3,3 +3,4 @@ pub mod Steps
 pub mod Opened
 pub mod Batches
 pub mod Starting
+pub mod Finishing

@@ -3,6 +3,7 @@
 
 mod batches;
 mod calls;
+mod finish;
 mod heard;
 mod opened;
 mod parts;

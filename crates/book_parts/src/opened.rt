@@ -1,5 +1,5 @@
 // A load that was opened.
-ghost use Rattle.std.specs.Prelude.{◌≡◌, ◌<◌, length, IfOk, IsTrue};
+ghost use Rattle.std.specs.Prelude.{◌≡◌, ◌<◌, length, slice_get, IfOk, IsTrue, Some};
 ghost use Rattle.load_rules.specs.Engine.{PlansFit};
 ghost use Rattle.book_rules.specs.Starts.{AreColumnsOf};
 ghost use Rattle.book_parts.specs.Opened.{HasPlaces, IsNumbered, IsPrepPlan};
@@ -9,7 +9,7 @@ use basics::{Copies, NoMemory, Sequence, StreamNo};
 use batch_prep::PrepPlan;
 use catalog::{ConfStream, Configured};
 use column_types::Columns;
-use outside::{Load, LoadPlan};
+use outside::{Load, LoadPlan, StreamPlan};
 use std::alloc::Global;
 use std::marker::Model;
 
@@ -54,6 +54,14 @@ impl Opened {
         ensures { result.now ≡ self.now.catalog }
     {
         &self.catalog
+    }
+
+    /// What the load does with a stream.
+    pub fn plan(&self, stream: StreamNo) -> &StreamPlan
+        requires { stream < length self.now.opening.plan }
+        ensures { slice_get self.now.opening.plan stream ≡ Some result.now }
+    {
+        self.plan.at(stream as usize)
     }
 
     /// How the rows of a stream are made.

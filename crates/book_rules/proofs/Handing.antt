@@ -70,7 +70,7 @@ seen_keeps old seen same marks poll is = record {
 }
   where
     book : IsBook (with_seen seen old)
-    book = record { configured = is.configured; planned = is.planned; as_many = ap (λ (list : List ℕ). length list) marks ∙ is.as_many; queue_streams = is.queue_streams; limits_are = is.limits_are; slots = is.slots; bytes = is.bytes; batch = is.batch; parked_small = is.parked_small; machine = is.machine; is = reseen_of old is.machine seen same poll is.is }
+    book = record { configured = is.configured; planned = is.planned; as_many = ap (λ (list : List ℕ). length list) marks ∙ is.as_many; listed = is.listed; queue_streams = is.queue_streams; limits_are = is.limits_are; slots = is.slots; bytes = is.bytes; batch = is.batch; parked_small = is.parked_small; machine = is.machine; is = reseen_of old is.machine seen same poll is.is }
 
     safe : KeepsSafe old (with_seen seen old)
     safe read before now first second reads =

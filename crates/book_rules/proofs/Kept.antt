@@ -45,7 +45,8 @@ kept shape old new is stays runs =
     record {
       configured = subst (λ (streams : List ConfStream). AreConfigured streams) (sym stays.catalog) is.configured;
       planned = subst (λ (opening : Opening). PlansFit new.catalog opening.plan) (sym stays.opening) (subst (λ (streams : List ConfStream). PlansFit streams old.opening.plan) (sym stays.catalog) is.planned);
-      as_many = ap (λ (marks : List ℕ). length marks) stays.seen.side_marks ∙ (is.as_many ∙ ap (λ (streams : List ConfStream). length streams) (sym stays.catalog));
+      as_many = stays.seen.many ∙ (is.as_many ∙ ap (λ (streams : List ConfStream). length streams) (sym stays.catalog));
+      listed = stays.listed ∙ (is.listed ∙ ap (λ (streams : List ConfStream). length streams) (sym stays.catalog));
       queue_streams = stays.queue.streams ∙ (is.queue_streams ∙ ap (λ (streams : List ConfStream). length streams) (sym stays.catalog));
       limits_are = subst AreLimits (sym stays.limits) is.limits_are;
       slots = stays.queue.slots ∙ (is.slots ∙ ap (λ (it : Limits). it.slots) (sym stays.limits));
@@ -56,7 +57,7 @@ kept shape old new is stays runs =
       is = went.leads;
     }
 
-keeps : (shape : List Step → Type 0) (old new : BookView) → IsBook old → Stays old new → Runs shape old new → Keeps shape old new
+pub keeps : (shape : List Step → Type 0) (old new : BookView) → IsBook old → Stays old new → Runs shape old new → Keeps shape old new
 keeps shape old new is stays runs =
     let book = kept shape old new is stays runs in
     record { book = book; runs = runs; moves = stays.seen.moves; grew = stays.seen.grew; own = own_is_safe new book; safe = keeps_safe old new book stays.catalog stays.limits stays.seen.moves }

@@ -18,3 +18,4 @@ pub mod Safe
 pub mod Kept
 pub mod Starting
 pub mod Handing
+pub mod Finishing

@@ -131,7 +131,7 @@ fresh_whole streams limits seen opening gate stands streams_is next states told 
 }
 
 fresh_is_book : (streams : List ConfStream) (limits : Limits) (seen : DockSeen) (opening : Opening) (gate : GateView) → AreConfigured streams → AreLimits limits → PlansFit streams opening.plan → length seen.face.side_marks ≡ length streams → IsWhole (fresh_book streams limits seen opening gate) start → IsBook (fresh_book streams limits seen opening gate)
-fresh_is_book streams limits seen opening gate configured limits_are planned as_many w = record { configured = configured; planned = planned; as_many = as_many; queue_streams = refl; limits_are = limits_are; slots = refl; bytes = refl; batch = refl; parked_small = tt; machine = start; is = book_of_whole (fresh_book streams limits seen opening gate) start w refl }
+fresh_is_book streams limits seen opening gate configured limits_are planned as_many w = record { configured = configured; planned = planned; as_many = as_many; listed = length-replicate (length streams) false; queue_streams = refl; limits_are = limits_are; slots = refl; bytes = refl; batch = refl; parked_small = tt; machine = start; is = book_of_whole (fresh_book streams limits seen opening gate) start w refl }
 
 -- An opening keeps a trace safe and bounded
 

@@ -24,7 +24,7 @@ use Rattle.load_rules.specs.Bounded.{AreBounded, IsBounded}
 use Rattle.load_rules.specs.Engine.{PlansFit}
 use Rattle.load_rules.specs.Lines.{Line, Reading, IsReading, line_read}
 use Rattle.load_rules.specs.Loads.{Load, Opening, loads}
-use Rattle.load_rules.specs.Machine.{Machine, Step, Accept, End, Seal, HandOut, Commit, TakeBack, Release, start, run, is_releasable}
+use Rattle.load_rules.specs.Machine.{Machine, Step, Accept, End, Seal, HandOut, Commit, TakeBack, Release, Turn, start, run, is_releasable}
 use Rattle.load_rules.specs.Prefixes.{EachFits}
 use Rattle.load_rules.specs.Taken.{entries}
 use Rattle.load_rules.specs.SafeDest.{Fits, uncommitted, IsSafeDest, IsSafeLoad}
@@ -144,6 +144,7 @@ pub record IsBook (book : BookView) : Type 0 where
   pub configured : AreConfigured book.catalog
   pub planned : PlansFit book.catalog book.opening.plan
   pub as_many : length book.seen.face.side_marks ≡ length book.catalog
+  pub listed : length book.shown ≡ length book.catalog
   pub queue_streams : book.queue.streams ≡ length book.catalog
   pub limits_are : AreLimits book.limits
   pub slots : book.queue.slots ≡ book.limits.slots
@@ -183,7 +184,7 @@ abbrev pub KeepsSafe : BookView → BookView → Type 0
 KeepsSafe old new = KeepsSafeOf old.catalog (old.limits.slots + 1) old.seen new.seen
 
 -- What a call is to the machine: accept takes at most once, then seals, then releases; pick hands out at most once; put is one commit
--- with its releases; give_back takes the batch back by its number; recall takes back.
+-- with its releases; give_back takes the batch back by its number; recall takes back; finish merges and shows.
 abbrev pub IsTaking : Step → Type 0
 IsTaking (Accept line) = Unit {0}
 IsTaking End = Unit {0}
@@ -228,6 +229,14 @@ IsGiveBackRun number steps = ⊥
 
 abbrev pub IsRecallRun : List Step → Type 0
 IsRecallRun steps = AllByRecursion IsTakingBack steps
+
+-- a merge, or a stream that is shown
+abbrev pub IsTurning : Step → Type 0
+IsTurning Turn = Unit {0}
+IsTurning step = ⊥
+
+abbrev pub IsFinishRun : List Step → Type 0
+IsFinishRun steps = AllByRecursion IsTurning steps
 
 -- no step
 abbrev pub IsNoRun : List Step → Type 0

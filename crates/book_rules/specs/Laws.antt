@@ -1,5 +1,5 @@
 -- What each call on a book leads to, whatever it answers.
-use Rattle.std.specs.Prelude.{◌≡◌, ℕ, ◌+◌, List, Option, None, Result}
+use Rattle.std.specs.Prelude.{◌≡◌, ℕ, ◌+◌, ◌<◌, List, length, Option, None, Result}
 use Rattle.basics.specs.declared.memory.NoMemory.{NoMemory}
 use Rattle.catalog.specs.Configured.{AreConfigured}
 use Rattle.catalog.specs.declared.stream.ConfStream.{ConfStream}
@@ -11,9 +11,11 @@ use Rattle.outside.specs.declared.load.Limits.{Limits}
 use Rattle.outside.specs.declared.status.Status.{Status}
 use Rattle.load_rules.specs.Machine.{Step}
 use Rattle.book_rules.specs.declared.answer.Accepted.{Accepted}
+use Rattle.book_rules.specs.declared.answer.Finished.{Finished}
 use Rattle.book_rules.specs.declared.answer.Put.{Put}
 use Rattle.book_rules.specs.Accepts.{AcceptAnswer}
-use Rattle.book_rules.specs.Books.{IsAcceptRun, IsBook, IsGiveBackRun, IsNoRun, IsPickRun, IsPutRun, IsRecallRun, KeepsSafe, KeepsSafeOf, OwnLoadIsSafe, Runs}
+use Rattle.book_rules.specs.Books.{IsAcceptRun, IsBook, IsFinishRun, IsGiveBackRun, IsNoRun, IsPickRun, IsPutRun, IsRecallRun, KeepsSafe, KeepsSafeOf, OwnLoadIsSafe, Runs}
+use Rattle.book_rules.specs.Finishes.{CanFinish, FinishAnswer}
 use Rattle.book_rules.specs.Hands.{PushAnswer, TakeOutputAnswer, closed}
 use Rattle.book_rules.specs.Holds.{CanPut, IsReady}
 use Rattle.book_rules.specs.Puts.{GiveBackAnswer, PickAnswer, PutAnswer, recalled}
@@ -44,6 +46,9 @@ GiveBackKeeps = (item : WorkItem) (result : Option WorkItem) (old new : BookView
 
 abbrev pub RecallKeeps : Type 0
 RecallKeeps = (old new : BookView) → IsBook old → new ≡ recalled old → Keeps IsRecallRun old new
+
+abbrev pub FinishKeeps : Type 0
+FinishKeeps = (stream : ℕ) (result : Result Finished Status) (old new : BookView) → IsBook old → FinishAnswer stream result old new → Keeps IsFinishRun old new
 
 -- the calls of a dock in memory are no event, and no step
 pub record HandKeeps (old new : BookView) : Type 0 where
@@ -85,3 +90,7 @@ BooksAreReady = (book : BookView) → IsBook book → book.tally.broken ≡ None
 -- and a batch can be put to it
 abbrev pub BooksCanPut : Type 0
 BooksCanPut = (book : BookView) → IsBook book → book.tally.broken ≡ None → CanPut book
+
+-- and each of its streams can be finished
+abbrev pub BooksCanFinish : Type 0
+BooksCanFinish = (stream : ℕ) (book : BookView) → IsBook book → stream < length book.catalog → CanFinish stream book

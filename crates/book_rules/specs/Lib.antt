@@ -3,6 +3,7 @@ pub mod Docks
 pub mod Releases
 pub mod Accepts
 pub mod Puts
+pub mod Finishes
 pub mod Starts
 pub mod Hands
 pub mod Holds

@@ -57,3 +57,16 @@ pub enum Put {
     /// The book is broken, by this.
     Broken(Status),
 }
+
+/// What became of a stream at the end of a load.
+#[derive(Clone, Copy, Debug, PartialEq, Eq)]
+pub enum Finished {
+    /// All its rows are merged, where it is deduplicated. It was not hidden, or it was shown before.
+    Kept,
+    /// All its rows are merged, where it is deduplicated, and it is shown now.
+    Shown,
+    /// Its last status is not that it is complete.
+    NotComplete,
+    /// A record is uncommitted, or the input goes on.
+    Undrained,
+}

@@ -1,5 +1,5 @@
 // What each call on a book leads to, as contracts of functions that do nothing.
-ghost use Rattle.book_rules.specs.Laws.{AcceptKeeps, BooksAreReady, BooksAreSafe, BooksCanPut, CloseKeeps, GiveBackKeeps, PickKeeps, PushKeeps, PutKeeps, RecallKeeps, RefusedKeeps, StartsBegin, TakeOutputKeeps};
+ghost use Rattle.book_rules.specs.Laws.{AcceptKeeps, BooksAreReady, BooksAreSafe, BooksCanFinish, BooksCanPut, CloseKeeps, FinishKeeps, GiveBackKeeps, PickKeeps, PushKeeps, PutKeeps, RecallKeeps, RefusedKeeps, StartsBegin, TakeOutputKeeps};
 
 /// A call on the input is a run of the machine: a line at most, then seals, then releases.
 pub fn accept_keeps()
@@ -24,6 +24,11 @@ pub fn give_back_keeps()
 /// All batches are taken back.
 pub fn recall_keeps()
     ensures { RecallKeeps }
+{}
+
+/// A finish is merges and a showing, and nothing else.
+pub fn finish_keeps()
+    ensures { FinishKeeps }
 {}
 
 /// A line that is pushed is no event.
@@ -64,4 +69,9 @@ pub fn books_are_ready()
 /// A batch can be put to a book that is not broken.
 pub fn books_can_put()
     ensures { BooksCanPut }
+{}
+
+/// Each stream of a book can be finished.
+pub fn books_can_finish()
+    ensures { BooksCanFinish }
 {}

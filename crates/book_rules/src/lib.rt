@@ -4,9 +4,9 @@
 mod answer;
 mod laws;
 
-pub use answer::{Accepted, BookState, Lanes, Put, Tally};
+pub use answer::{Accepted, BookState, Finished, Lanes, Put, Tally};
 pub use laws::{
-    accept_keeps, books_are_ready, books_are_safe, books_can_put, close_keeps, give_back_keeps,
-    pick_keeps, push_keeps, put_keeps, recall_keeps, refused_keeps, starts_begin,
-    take_output_keeps,
+    accept_keeps, books_are_ready, books_are_safe, books_can_finish, books_can_put, close_keeps,
+    finish_keeps, give_back_keeps, pick_keeps, push_keeps, put_keeps, recall_keeps, refused_keeps,
+    starts_begin, take_output_keeps,
 };

@@ -1,20 +1,21 @@
 // The book of a load.
-ghost use Rattle.std.specs.Prelude.{◌≡◌, ◌+◌, IfErr, IfOk, IfSome, length};
+ghost use Rattle.std.specs.Prelude.{◌≡◌, ◌<◌, ◌+◌, IfErr, IfOk, IfSome, length};
 ghost use Rattle.catalog.specs.Configured.{AreConfigured};
 ghost use Rattle.outside.specs.Dock.{DockGrew, DockMoves};
 ghost use Rattle.outside.specs.Hand.{IsOpen};
 ghost use Rattle.outside.specs.Limits.{AreLimits};
 ghost use Rattle.book_rules.specs.Accepts.{AcceptAnswer};
-ghost use Rattle.book_rules.specs.Books.{IsAcceptRun, IsBook, IsGiveBackRun, IsNoRun, IsPickRun, IsPutRun, IsRecallRun, KeepsSafe, KeepsSafeOf, OwnLoadIsSafe, Runs};
+ghost use Rattle.book_rules.specs.Books.{IsAcceptRun, IsBook, IsFinishRun, IsGiveBackRun, IsNoRun, IsPickRun, IsPutRun, IsRecallRun, KeepsSafe, KeepsSafeOf, OwnLoadIsSafe, Runs};
+ghost use Rattle.book_rules.specs.Finishes.{FinishAnswer};
 ghost use Rattle.book_rules.specs.Hands.{PushAnswer, TakeOutputAnswer, closed};
 ghost use Rattle.book_rules.specs.Puts.{GiveBackAnswer, PickAnswer, PutAnswer, recalled};
 ghost use Rattle.book_rules.specs.Starts.{RefusedBy, Starts};
 ghost use Rattle.book_rules.specs.Views.{BookView, state_of};
 
-use basics::{Bytes, NoMemory};
+use basics::{Bytes, NoMemory, StreamNo};
 use batch_prep::{Prepared, WorkItem};
 use book_parts::{Parts, new_parts};
-use book_rules::{Accepted, BookState, Put};
+use book_rules::{Accepted, BookState, Finished, Put};
 use catalog::Configured;
 use outside::{Dock, HandDock, Limits, Status};
 use std::alloc::Global;
@@ -127,6 +128,21 @@ impl<D: Dock + Drop> Book<D> {
         ensures safe { KeepsSafe self.old self.new }
     {
         self.parts.recall();
+    }
+
+    /// Merges a stream's rows, page by page, where it is deduplicated, and shows it, where it is hidden and was not shown yet: once
+    /// the input has ended, all records are committed, and its source said last that it is complete.
+    #[tactic(auto, using(book_rules::proofs::Finishing::books_can_finish, book_rules::proofs::Finishing::finish_book, book_rules::proofs::Finishing::finish_runs, book_rules::proofs::Finishing::finish_moves, book_rules::proofs::Finishing::finish_grew, book_rules::proofs::Finishing::finish_own, book_rules::proofs::Finishing::finish_safe))]
+    pub fn finish(&mut self, stream: StreamNo) -> Result<Finished, Status>
+        requires { stream < length self.old.catalog }
+        ensures answer { FinishAnswer stream result self.old self.new }
+        ensures runs { Runs IsFinishRun self.old self.new }
+        ensures moves { DockMoves self.old.seen self.new.seen }
+        ensures grew { DockGrew self.old.seen self.new.seen }
+        ensures own { OwnLoadIsSafe self.new }
+        ensures safe { KeepsSafe self.old self.new }
+    {
+        self.parts.finish(stream)
     }
 
     /// The dock, as it stands.
