@@ -51,16 +51,6 @@ fn catalog_in(alloc: Global, text: &[u8]) -> Result<Configured> {
     }
 }
 
-fn started<D: Dock + Drop>(alloc: Global, dock: D, configured: &Configured) -> Result<Book<D>> {
-    if !LIMITS.are_limits() {
-        bail!("the limits are none");
-    }
-    match Book::start(alloc, dock, configured, LIMITS) {
-        Ok(book) => Ok(book),
-        Err(_) => bail!("the book was not started"),
-    }
-}
-
 fn prepared(alloc: Global, item: WorkItem) -> Result<Prepared> {
     match prepare(alloc, item) {
         Ok(done) => Ok(done),
@@ -143,15 +133,44 @@ fn drain<D: Dock + Drop>(
     Ok(())
 }
 
-fn run<D: Dock + Drop>(rt: &HostRuntime, book: &mut Book<D>, figures: &mut Figures) -> Result<()> {
+fn run<D: Dock + Drop>(rt: &HostRuntime, book: &mut Book<D>) -> Result<Figures> {
+    let mut figures = Figures {
+        rows: 0,
+        accept: 0,
+        pick: 0,
+        prepare: 0,
+        put: 0,
+    };
     for _ in 0..u64::MAX {
-        let is_over = fill(rt, book, figures)?;
-        drain(rt, book, figures)?;
+        let is_over = fill(rt, book, &mut figures)?;
+        drain(rt, book, &mut figures)?;
         if is_over {
-            return Ok(());
+            break;
         }
     }
-    Ok(())
+    Ok(figures)
+}
+
+// Runs a book over a dock.
+fn bench<D: Dock + Drop>(rt: &HostRuntime, dock: D, configured: &Configured) -> Result<Figures> {
+    if !LIMITS.are_limits() {
+        bail!("the limits are none");
+    }
+    match Book::start(rt.alloc(), dock, configured, LIMITS) {
+        Ok(mut book) => run(rt, &mut book),
+        Err(_) => bail!("the book was not started"),
+    }
+}
+
+// Runs a book over standard input and output.
+fn bench_streams(rt: &HostRuntime, configured: &Configured) -> Result<Figures> {
+    let keeper = EmptyKeeper { alloc: rt.alloc() };
+    let source = StdSource::new(rt.reader());
+    let sink = StdSink::new(io::writer(rt));
+    match KeptDock::new(rt.alloc(), 0, keeper, source, sink) {
+        Ok(dock) => bench(rt, dock, configured),
+        Err(_) => bail!("out of memory"),
+    }
 }
 
 fn main(rt: HostRuntime) -> Result<()> {
@@ -161,19 +180,7 @@ fn main(rt: HostRuntime) -> Result<()> {
     }
     let text = fs::read(&rt, words[0].as_str())?;
     let configured = catalog_in(rt.alloc(), &text)?;
-    let keeper = EmptyKeeper { alloc: rt.alloc() };
-    let source = StdSource::new(rt.reader());
-    let sink = StdSink::new(io::writer(&rt));
-    let dock = KeptDock::new(rt.alloc(), 0, keeper, source, sink)?;
-    let mut book = started(rt.alloc(), dock, &configured)?;
-    let mut figures = Figures {
-        rows: 0,
-        accept: 0,
-        pick: 0,
-        prepare: 0,
-        put: 0,
-    };
-    run(&rt, &mut book, &mut figures)?;
+    let figures = bench_streams(&rt, &configured)?;
     eprintln!(rt;
         "{} {} {} {} {}",
         figures.rows, figures.accept, figures.pick, figures.prepare, figures.put
