@@ -54,14 +54,14 @@ fn body_of(alloc: Global, key: u64) -> Result<Bytes, NoMemory> {
     Ok(text)
 }
 
-fn key_of(row: u64, rows: u64) -> u64 {
-    row % rows.max(1) * (STEP % rows.max(1)) % rows.max(1)
+fn key_of(row: u32, rows: u32) -> u64 {
+    u64::from(row) * STEP % u64::from(rows).max(1)
 }
 
 fn rows_of(alloc: Global, count: u32) -> Result<NumberedRowList, NoMemory> {
     let mut rows = NumberedRowList::new(alloc);
     for row in 0..count {
-        let key = key_of(u64::from(row), u64::from(count));
+        let key = key_of(row, count);
         rows.push(NumberedRow {
             id: u64::from(row) + 1,
             body: body_of(alloc, key)?,
@@ -82,7 +82,7 @@ fn sort_keys(rt: &HostRuntime, count: u32) -> Result<u128> {
     let mut keys = Vec::new(rt.alloc());
     for row in 0..count {
         let mut text = Bytes::new(rt.alloc());
-        put_number(&mut text, key_of(u64::from(row), u64::from(count)))?;
+        put_number(&mut text, key_of(row, count))?;
         keys.push(text)?;
     }
     let start = Instant::now(rt)?;
