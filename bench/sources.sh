@@ -92,3 +92,14 @@ for rows in "$@"; do
     python3 "$folder/timed.py" "$rows" "$size" source_files "$program" read --config "$folder/config.json" --catalog "$folder/catalog.json"
     python3 "$folder/timed.py" "$rows" "$size" "Python csv" python3 "$folder/source.py" "$folder/rows.csv"
 done
+
+# The list of a table's rows beside a sort of the texts of their keys alone.
+tables=${TABLES:-$top/crates/table_bench/out/table_bench}
+if [ ! -x "$tables" ]; then
+    echo "no program at $tables: run 'rt run' in crates/table_bench for the list of a table's rows" >&2
+    exit 0
+fi
+printf '\n%-10s %12s %12s %8s\n' rows 'list ms' 'sort ms' ratio
+for rows in 10000 100000 1000000; do
+    "$tables" "$rows" 2>&1 >/dev/null | awk -v n="$rows" '{ printf "%-10s %12.1f %12.1f %8.1f\n", n, $1 / 1e6, $2 / 1e6, $1 / $2 }'
+done
