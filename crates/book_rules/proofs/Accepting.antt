@@ -332,12 +332,12 @@ went_message book m seen text (message.Control content) result new g few answer 
 
 -- how a line that is no message came
 abbrev pub PollFits : InputKind → DockSeen → Type 0
-PollFits input.BadLine seen = Unit {0}
+PollFits input.BadLine seen = seen.face.poll ≡ poll_kind.Line
 PollFits input.TornTail seen = seen.face.poll ≡ poll_kind.Torn
 PollFits kind seen = ⊥
 
 went_found : (book : BookView) (m : Machine) (seen : DockSeen) (text : List ℕ) (kind : InputKind) (found : Option Message) (result : Accepted) (new : BookView) → Given book m seen text → PollFits kind seen → book.tally.lines + 1 < 2 ^ 32 → IsAnswer (IsMessage text) found → TakesFound found kind text result (after book seen) new → Went IsAcceptRun book.catalog new m
-went_found book m seen text input.BadLine None result new g poll few answer t = went_refused book m seen text _ result new g (refl, record { line = text; last = refl; found = None; read = answer; fault = refl }) t
+went_found book m seen text input.BadLine None result new g poll few answer t = went_refused book m seen text _ result new g (refl, poll, record { line = text; last = refl; found = None; read = answer; fault = refl }) t
 went_found book m seen text input.TornTail None result new g poll few answer t = went_refused book m seen text _ result new g (refl, poll, record { line = text; last = refl; found = None; read = answer; fault = refl }) t
 went_found book m seen text _ None result new g poll few answer t = absurd poll
 went_found book m seen text kind (Some content) result new g poll few answer t = went_message book m seen text content result new g few answer t

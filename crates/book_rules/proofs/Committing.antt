@@ -58,7 +58,7 @@ left_in batch held = filter (λ one. not (queue.is_in_batch batch one)) held
 abbrev pub committed_book : BookView → ℕ → DockSeen → GateView → BookView
 committed_book book batch seen gate = record book { seen = seen; gate = gate; queue = record (book.queue) { held = left_in batch book.queue.held } }
 
-filter_none : {A : Type 0} (u : A → Bool) (xs : List A) → AllByRecursion (λ x. u x ≡ false) xs → filter u xs ≡ []
+pub filter_none : {A : Type 0} (u : A → Bool) (xs : List A) → AllByRecursion (λ x. u x ≡ false) xs → filter u xs ≡ []
 filter_none u [] none = refl
 filter_none u (x ∷ xs) none = rw none.0 (filter_none u xs none.1)
 

@@ -1,18 +1,17 @@
 -- The calls of a dock in memory: no event, and no step.
 use Rattle.std.proofs.Common.{◌≡◌, ℕ, List, [], Option, None, Some, Result, Ok, Err, refl, sym, ◌∙◌, ap, subst, length}
-use Rattle.std.specs.Prelude.{IfSome}
+use Rattle.std.specs.Prelude.{◌+◌, IfSome, option_map}
 use Rattle.basics.specs.declared.memory.NoMemory.{NoMemory}
 use Rattle.outside.specs.Dock.{DockSeen, TakesFrom, dock_events, with_hand}
 use Rattle.outside.specs.Hand.{Hand, hand_closed, hand_pushed}
 use Rattle.outside.specs.declared.link.PollKind.{PollKind}
+use Rattle.outside.specs.Tables.{tables_of}
 use Rattle.outside.specs.declared.event.Event.{Event}
 use Rattle.load_rules.specs.Machine.{Machine}
-use Rattle.load_rules.specs.SafeDest.{IsSafeDest}
-use Rattle.load_rules.specs.Bounded.{AreBounded}
-use Rattle.book_rules.specs.Books.{BrokeBy, IsBook, IsBookOf, IsNoRun, KeepsSafe, OwnLoadIsSafe, Runs, Tells}
+use Rattle.book_rules.specs.Books.{BrokeBy, IsBook, IsBookOf, IsNoRun, KeepsOpened, KeepsSafe, OwnLoadIsSafe, Runs, StaySafe, Tells}
 use Rattle.book_rules.specs.Hands.{PushAnswer, TakeOutputAnswer, closed, with_seen}
 use Rattle.book_rules.specs.Laws.{CloseKeeps, HandKeeps, PushKeeps, TakeOutputKeeps}
-use Rattle.book_rules.specs.Views.{BookView, ids}
+use Rattle.book_rules.specs.Views.{BookView, HasPlans, ids}
 use Rattle.book_rules.proofs.Lists.{some_is}
 use Rattle.book_rules.proofs.Safe.{own_is_safe}
 
@@ -64,18 +63,19 @@ reseen_of book m seen same poll_is is = record {
 seen_keeps : (old : BookView) (seen : DockSeen) → dock_events seen ≡ dock_events old.seen → seen.face.side_marks ≡ old.seen.face.side_marks → seen.face.poll ≡ old.seen.face.poll → IsBook old → HandKeeps old (with_seen seen old)
 seen_keeps old seen same marks poll is = record {
   book = book;
+  opened = record { catalog = refl; opening = refl; limits = refl };
   runs = λ m of. record { steps = []; shaped = tt; leads = reseen_of old m seen same poll of };
   own = own_is_safe (with_seen seen old) book;
   safe = safe;
 }
   where
     book : IsBook (with_seen seen old)
-    book = record { configured = is.configured; planned = is.planned; as_many = ap (λ (list : List ℕ). length list) marks ∙ is.as_many; listed = is.listed; queue_streams = is.queue_streams; limits_are = is.limits_are; slots = is.slots; bytes = is.bytes; batch = is.batch; parked_small = is.parked_small; machine = is.machine; is = reseen_of old is.machine seen same poll is.is }
+    book = record { configured = is.configured; planned = is.planned; as_many = ap (λ (list : List ℕ). length list) marks ∙ is.as_many; listed = is.listed; queue_streams = is.queue_streams; limits_are = is.limits_are; slots = is.slots; bytes = is.bytes; batch = is.batch; parked_small = is.parked_small; plans = λ none. subst (λ (events : Option (List Event)). IfSome (option_map tables_of events) (HasPlans old)) (sym same) (is.plans none); machine = is.machine; is = reseen_of old is.machine seen same poll is.is }
 
     safe : KeepsSafe old (with_seen seen old)
     safe read before now first second reads =
         let now_is : now ≡ before = some_is now before (sym second ∙ (same ∙ first)) in
-        record { safe = λ it. subst (IsSafeDest old.catalog read) (sym now_is) it; bounded = λ it. subst (AreBounded _ read) (sym now_is) it }
+        subst (StaySafe old.catalog (old.limits.slots + 1) read before) (sym now_is) (record { safe = λ it. it; bounded = λ it. it; store = λ it. it; engine = λ it. it })
 
 hand_keeps_as : (old mid new : BookView) → new ≡ mid → HandKeeps old mid → HandKeeps old new
 hand_keeps_as old mid new same keeps = subst (HandKeeps old) (sym same) keeps
@@ -106,6 +106,9 @@ take_output_keeps given old new is answer =
 pub push_book : (result : Result (Unit {0}) NoMemory) (line : List ℕ) (old new : BookView) → IsBook old → PushAnswer result line old new → IsBook new
 push_book result line old new is answer = (push_keeps result line old new is answer).book
 
+pub push_opened : (result : Result (Unit {0}) NoMemory) (line : List ℕ) (old new : BookView) → IsBook old → PushAnswer result line old new → KeepsOpened old new
+push_opened result line old new is answer = (push_keeps result line old new is answer).opened
+
 pub push_runs : (result : Result (Unit {0}) NoMemory) (line : List ℕ) (old new : BookView) → IsBook old → PushAnswer result line old new → Runs IsNoRun old new
 push_runs result line old new is answer = (push_keeps result line old new is answer).runs
 
@@ -118,6 +121,9 @@ push_safe result line old new is answer = (push_keeps result line old new is ans
 pub close_book : (torn : Option (List ℕ)) (old new : BookView) → IsBook old → new ≡ closed torn old → IsBook new
 close_book torn old new is answer = (close_keeps torn old new is answer).book
 
+pub close_opened : (torn : Option (List ℕ)) (old new : BookView) → IsBook old → new ≡ closed torn old → KeepsOpened old new
+close_opened torn old new is answer = (close_keeps torn old new is answer).opened
+
 pub close_runs : (torn : Option (List ℕ)) (old new : BookView) → IsBook old → new ≡ closed torn old → Runs IsNoRun old new
 close_runs torn old new is answer = (close_keeps torn old new is answer).runs
 
@@ -129,6 +135,9 @@ close_safe torn old new is answer = (close_keeps torn old new is answer).safe
 
 pub take_output_book : (given : Option (List ℕ)) (old new : BookView) → IsBook old → TakeOutputAnswer given old new → IsBook new
 take_output_book given old new is answer = (take_output_keeps given old new is answer).book
+
+pub take_output_opened : (given : Option (List ℕ)) (old new : BookView) → IsBook old → TakeOutputAnswer given old new → KeepsOpened old new
+take_output_opened given old new is answer = (take_output_keeps given old new is answer).opened
 
 pub take_output_runs : (given : Option (List ℕ)) (old new : BookView) → IsBook old → TakeOutputAnswer given old new → Runs IsNoRun old new
 take_output_runs given old new is answer = (take_output_keeps given old new is answer).runs

@@ -14,8 +14,13 @@ pub mod Putting
 pub mod Committing
 pub mod Batching
 pub mod Moving
+pub mod Running
+pub mod Planned
+pub mod Turning
 pub mod Safe
+pub mod Ended
 pub mod Kept
 pub mod Starting
 pub mod Handing
 pub mod Finishing
+pub mod Leaving

@@ -142,7 +142,7 @@ went_broke : (book : BookView) (m : Machine) (seen : DockSeen) (stop : Status) (
 went_broke book m seen stop result new b same why r = went_as IsAcceptRun book.catalog (broke (record book { seen = seen }) stop) new m r.is (went_none book.catalog (broke (record book { seen = seen }) stop) m (broke_still book m seen stop b.w same why))
 
 went_taken : (book : BookView) (m : Machine) (seen : DockSeen) (given : Polled) (result : Accepted) (new : BookView) → Begins book m → book.queue.parked ≡ None → book.tally.is_ended ≡ false → TookAdds given (dock_events book.seen) (dock_events seen) → seen.face.poll ≡ kind_of given → Takes given result (record book { seen = seen }) new → Went IsAcceptRun book.catalog new m
-went_taken book m seen (polled.Line line) result new b empty not_yet adds poll t = went_line book m seen line input.BadLine result new (record { b = b; empty = empty; added = adds }) tt t
+went_taken book m seen (polled.Line line) result new b empty not_yet adds poll t = went_line book m seen line input.BadLine result new (record { b = b; empty = empty; added = adds }) poll t
 went_taken book m seen (polled.Torn line) result new b empty not_yet adds poll t = went_line book m seen line input.TornTail result new (record { b = b; empty = empty; added = adds }) poll t
 went_taken book m seen polled.TooLong result new b empty not_yet adds poll t = went_broke book m seen _ result new b adds (refl, refl, poll) t
 went_taken book m seen polled.NotYet result new b empty not_yet adds poll t = went_as IsAcceptRun book.catalog (record book { seen = seen }) new m t.is (went_none book.catalog (record book { seen = seen }) m (book_of_whole (record book { seen = seen }) m (reseen book m seen adds b.w) b.quiet))

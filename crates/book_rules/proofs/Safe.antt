@@ -1,26 +1,24 @@
 -- The book's own load is safe and bounded, and so each call leaves the whole trace.
-use Rattle.std.proofs.Common.{arith, ◌≡◌, ℕ, ◌+◌, ◌≤◌, List, [], ◌∷◌, ◌++◌, map, length, Option, Some, false, refl, sym, ◌∙◌, ap, subst, length-append}
+use Rattle.std.proofs.Common.{arith, ◌≡◌, ℕ, ◌+◌, ◌≤◌, List, [], ◌∷◌, ◌++◌, map, length, Option, false, refl, sym, ◌∙◌, ap, subst, length-append}
 use Rattle.std.specs.Prelude.{fold, not, IfSome}
 use Rattle.std.specs.List.{AllByRecursion}
 use Rattle.std.proofs.lemmas.List.{append-nil}
 use Rattle.std.proofs.lemmas.Option.{IfSome_then}
-use Rattle.basics.specs.Told.{told_more}
 use Rattle.catalog.specs.declared.stream.ConfStream.{ConfStream}
 use Rattle.outside.specs.Dock.{DockMoves, DockSeen, dock_events, is_opening}
 use Rattle.outside.specs.Event.{is_links}
 use Rattle.outside.specs.declared.event.Event.{Event}
-use Rattle.outside.specs.declared.event.Event.TheVariants.{Opened}
 use Rattle.outside.specs.declared.load.Limits.{Limits}
 use Rattle.outside.proofs.PlaceLaws.{all_filtered}
 use Rattle.load_rules.specs.Acts.{Act, Takes, IsAct, AreActs}
 use Rattle.load_rules.specs.Bounded.{HoldsAtMost, IsBounded}
 use Rattle.load_rules.specs.Laws.{IsSafeLast, OpensNothing}
-use Rattle.load_rules.specs.Lines.{IsReading, Line, Reading, ReadsEvent, line_read}
+use Rattle.load_rules.specs.Lines.{IsReading, Line, Reading, line_read}
 use Rattle.load_rules.specs.Loads.{Load, Opening, loads, loads_after, store_events, with_event}
 use Rattle.load_rules.specs.Machine.{Machine, Accept, Placed, happens, is_done}
 use Rattle.load_rules.specs.Machine as machine
-use Rattle.load_rules.specs.Prefixes.{EachFits, with_first}
-use Rattle.load_rules.specs.SafeDest.{Fits, uncommitted}
+use Rattle.load_rules.specs.Prefixes.{EachFits}
+use Rattle.load_rules.specs.SafeDest.{Fits, IsSafeDest, uncommitted}
 use Rattle.load_rules.specs.Taken.{entries_from}
 use Rattle.load_rules.proofs.Held.{held_are_uncommitted}
 use Rattle.load_rules.proofs.LoadFronts.{goes_on, loads-append, stays_safe}
@@ -30,8 +28,9 @@ use Rattle.book_rules.specs.Books.{AreUnused, HoldsFew, IsBook, KeepsSafe, Keeps
 use Rattle.book_rules.specs.Holds.{still}
 use Rattle.book_rules.specs.Views.{BookView}
 use Rattle.book_rules.proofs.Acts.{uncommitted_length}
-use Rattle.book_rules.proofs.Lists.{all_append, length_of_map, some_is}
+use Rattle.book_rules.proofs.Lists.{length_of_map}
 use Rattle.book_rules.proofs.Moves.{still_more}
+use Rattle.book_rules.proofs.Running.{KeepsRunOf, StayRun, loads_read, told_is}
 use Rattle.book_rules.proofs.Taking.{one_more}
 
 -- Bounds, act by act and event by event
@@ -72,7 +71,7 @@ unused_few catalog read m slots [] g are few = subst (EachFits (HoldsFew (slots 
 unused_few catalog read m slots (line ∷ []) g are few = each_more (HoldsFew (slots + 1)) [] m.acts (take_of read line) few (line_few catalog m (line_read read line) slots g are)
 unused_few catalog read m slots (line ∷ (next ∷ more)) g are few = absurd are
 
-reached_good : (book : BookView) (m : Machine) → Reached book m → IsGood m
+pub reached_good : (book : BookView) (m : Machine) → Reached book m → IsGood m
 reached_good book m r = subst IsGood r.runs (good_run book.catalog r.steps machine.start good_start)
 
 last_safe : (book : BookView) (m : Machine) (r : Reached book m) (trace : List Event) → Tells book.opening m.acts r.unused trace → LastIsSafe book trace
@@ -91,23 +90,6 @@ last_safe book m r trace t = record {
 
 pub own_is_safe : (book : BookView) → IsBook book → OwnLoadIsSafe book
 own_is_safe book is = IfSome_then (dock_events book.seen) is.is.reached.told (λ trace tells. last_safe book is.machine is.is.reached trace tells)
-
--- The loads of a trace that is read rightly are
-
-first_reads : (read : Reading) (event : Event) (list : List Load) → ReadsEvent read event → AllByRecursion (λ load. IsReading read load.events) list → AllByRecursion (λ load. IsReading read load.events) (with_first (with_event event) list)
-first_reads read event [] reads each = tt
-first_reads read event (load ∷ older) reads each = (all_append (ReadsEvent read) load.events (event ∷ []) each.0 (reads, tt), each.1)
-
-loads_read_after : (read : Reading) (event : Event) (list : List Load) → ReadsEvent read event → AllByRecursion (λ load. IsReading read load.events) list → AllByRecursion (λ load. IsReading read load.events) (loads_after list event)
-loads_read_after read (Opened load moment plan) list reads each = (tt, each)
-loads_read_after read event list reads each = first_reads read event list reads each
-
-fold_reads : (read : Reading) (events : List Event) (list : List Load) → AllByRecursion (ReadsEvent read) events → AllByRecursion (λ load. IsReading read load.events) list → AllByRecursion (λ load. IsReading read load.events) (fold loads_after list events)
-fold_reads read [] list reads each = each
-fold_reads read (event ∷ events) list reads each = fold_reads read events (loads_after list event) reads.1 (loads_read_after read event list reads.0 each)
-
-loads_read : (read : Reading) (trace : List Event) → IsReading read trace → AllByRecursion (λ load. IsReading read load.events) (loads trace)
-loads_read read trace reads = fold_reads read (store_events trace) [] (all_filtered (ReadsEvent read) (λ event. not (is_links event)) trace reads) tt
 
 -- A trace whose last load goes on
 
@@ -138,24 +120,26 @@ bounded_on most read (first ∷ rest) events load older opens each is own =
     let on = older_stay first rest events opens in
     subst (AllByRecursion (IsBounded most read)) (sym is) (own, subst (AllByRecursion (IsBounded most read)) (tail_is on.last load rest older (sym on.is ∙ is)) each.1)
 
-stay_safe : (book : BookView) (read : Reading) (before more : List Event) → OpensNothing more → IsReading read (before ++ more) → LastIsSafe book (before ++ more) → StaySafe book.catalog (book.limits.slots + 1) read before (before ++ more)
-stay_safe book read before more opens reads last = record {
-  safe = λ safe. stays_safe book.catalog read before more safe opens (subst (IsSafeLast book.catalog read) (sym last.last) (last.safe read own));
+stay_safe : (book : BookView) (read : Reading) (before more : List Event) → OpensNothing more → IsReading read (before ++ more) → LastIsSafe book (before ++ more) → StayRun book.catalog read before (before ++ more) → StaySafe book.catalog (book.limits.slots + 1) read before (before ++ more)
+stay_safe book read before more opens reads last run = record {
+  safe = stays;
   bounded = λ each. subst (AllByRecursion (IsBounded (book.limits.slots + 1) read)) (sym (loads-append before more)) (bounded_on (book.limits.slots + 1) read (loads before) (store_events more) last.load last.older (all_filtered (λ event. is_opening event ≡ false) (λ event. not (is_links event)) more opens) each (sym (loads-append before more) ∙ last.last) (last.bounded read own));
+  store = run.store;
+  engine = λ loads_are. record { safe = stays loads_are.safe; store = run.store loads_are.store; fit = run.fit loads_are.fit };
 }
   where
     own : IsReading read last.load.events
     own = (subst (AllByRecursion (λ load. IsReading read load.events)) last.last (loads_read read (before ++ more) reads)).0
 
-told_is : (more before now : List Event) (old new : Option (List Event)) → new ≡ told_more more old → old ≡ Some before → new ≡ Some now → now ≡ before ++ more
-told_is more before now old new grew first second = some_is now (before ++ more) (sym second ∙ (grew ∙ ap (told_more more) first))
+    stays : IsSafeDest book.catalog read before → IsSafeDest book.catalog read (before ++ more)
+    stays safe = stays_safe book.catalog read before more safe opens (subst (IsSafeLast book.catalog read) (sym last.last) (last.safe read own))
 
-pub keeps_safe_of : (book : BookView) (old : DockSeen) → IsBook book → DockMoves old book.seen → KeepsSafeOf book.catalog (book.limits.slots + 1) old book.seen
-keeps_safe_of book old is moves read before now first second reads =
+pub keeps_safe_of : (book : BookView) (old : DockSeen) → IsBook book → DockMoves old book.seen → KeepsRunOf book.catalog old book.seen → KeepsSafeOf book.catalog (book.limits.slots + 1) old book.seen
+keeps_safe_of book old is moves run read before now first second reads =
     let same = told_is moves.more before now (dock_events old) (dock_events book.seen) moves.events first second in
     let own : LastIsSafe book now = subst (λ (o : Option (List Event)). IfSome o (LastIsSafe book)) second (own_is_safe book is) in
-    subst (StaySafe book.catalog (book.limits.slots + 1) read before) (sym same) (stay_safe book read before moves.more moves.goes_on (subst (IsReading read) same reads) (subst (LastIsSafe book) same own))
+    subst (StaySafe book.catalog (book.limits.slots + 1) read before) (sym same) (stay_safe book read before moves.more moves.goes_on (subst (IsReading read) same reads) (subst (LastIsSafe book) same own) (subst (StayRun book.catalog read before) same (run read before now first second reads)))
 
-pub keeps_safe : (old new : BookView) → IsBook new → new.catalog ≡ old.catalog → new.limits ≡ old.limits → DockMoves old.seen new.seen → KeepsSafe old new
-keeps_safe old new is catalog limits moves =
-    subst (λ (slots : ℕ). KeepsSafeOf old.catalog (slots + 1) old.seen new.seen) (ap (λ (it : Limits). it.slots) limits) (subst (λ (streams : List ConfStream). KeepsSafeOf streams (new.limits.slots + 1) old.seen new.seen) catalog (keeps_safe_of new old.seen is moves))
+pub keeps_safe : (old new : BookView) → IsBook new → new.catalog ≡ old.catalog → new.limits ≡ old.limits → DockMoves old.seen new.seen → KeepsRunOf new.catalog old.seen new.seen → KeepsSafe old new
+keeps_safe old new is catalog limits moves run =
+    subst (λ (slots : ℕ). KeepsSafeOf old.catalog (slots + 1) old.seen new.seen) (ap (λ (it : Limits). it.slots) limits) (subst (λ (streams : List ConfStream). KeepsSafeOf streams (new.limits.slots + 1) old.seen new.seen) catalog (keeps_safe_of new old.seen is moves run))

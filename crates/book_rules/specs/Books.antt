@@ -1,7 +1,7 @@
 -- What every book is: a run of the machine, and what its dock tells is the load of that run.
 use Rattle.std.specs.Prelude.{◌≡◌, ◌⊎◌, ℕ, ◌+◌, ◌-◌, ◌≤◌, ◌^◌, List, [], ◌∷◌, ◌++◌, map, filter_map, length, Option, None, Some, IfSome, find}
 use Rattle.std.specs.List.{AllByRecursion, list_any}
-use Rattle.outside.specs.Dock.{DockSeen, dock_events, took_over}
+use Rattle.outside.specs.Dock.{DockSeen, dock_events, tables, took_over}
 use Rattle.outside.specs.Limits.{AreLimits}
 use Rattle.outside.specs.declared.event.Event.{Event}
 use Rattle.outside.specs.declared.event.RawRow.{RawRow}
@@ -21,17 +21,18 @@ use Rattle.catalog.specs.declared.stream.ConfStream.{ConfStream}
 use Rattle.book_queue.specs.Content.{Held, all_of}
 use Rattle.load_rules.specs.Acts.{Act, Commits, Takes, AreActs, committed, taken, state_echoed}
 use Rattle.load_rules.specs.Bounded.{AreBounded, IsBounded}
-use Rattle.load_rules.specs.Engine.{PlansFit}
+use Rattle.load_rules.specs.Engine.{AreEngineLoads, PlansFit}
 use Rattle.load_rules.specs.Lines.{Line, Reading, IsReading, line_read}
 use Rattle.load_rules.specs.Loads.{Load, Opening, loads}
 use Rattle.load_rules.specs.Machine.{Machine, Step, Accept, End, Seal, HandOut, Commit, TakeBack, Release, Turn, start, run, is_releasable}
 use Rattle.load_rules.specs.Prefixes.{EachFits}
 use Rattle.load_rules.specs.Taken.{entries}
 use Rattle.load_rules.specs.SafeDest.{Fits, uncommitted, IsSafeDest, IsSafeLoad}
+use Rattle.load_rules.specs.Stores.{IsStoreRun}
 use Rattle.book_rules.specs.declared.answer.Tally.{Tally}
 use Rattle.book_rules.specs.Accepts.{fault_of}
 use Rattle.book_rules.specs.Holds.{Holds, is_end, lanes_among}
-use Rattle.book_rules.specs.Views.{BookView, ids}
+use Rattle.book_rules.specs.Views.{BookView, HasPlans, ids}
 
 -- at most so many records are taken and not committed behind an act
 abbrev pub HoldsFew : ℕ → List Act → Act → Type 0
@@ -97,6 +98,7 @@ pub record IsRefused (unread kind : InputKind) (ids : List StreamId) (acts : Lis
 abbrev pub BrokeBy : List StreamId → ℕ → PollKind → List Act → List (List ℕ) → Status → Type 0
 BrokeBy ids lines poll acts unused (status.BadInput input.TooLong number) = (number ≡ lines + 1) × (unused ≡ []) × (poll ≡ poll_kind.TooLong)
 BrokeBy ids lines poll acts unused (status.BadInput input.TornTail number) = (number ≡ lines) × (poll ≡ poll_kind.Torn) × IsRefused input.TornTail input.TornTail ids acts unused
+BrokeBy ids lines poll acts unused (status.BadInput input.BadLine number) = (number ≡ lines) × (poll ≡ poll_kind.Line) × IsRefused input.BadLine input.BadLine ids acts unused
 BrokeBy ids lines poll acts unused (status.BadInput kind number) = (number ≡ lines) × IsRefused input.BadLine kind ids acts unused
 BrokeBy ids lines poll acts unused status.TooManyLines = lines ≡ 2 ^ 32
 BrokeBy ids lines poll acts unused status.StoreFault = Unit {0}
@@ -151,6 +153,7 @@ pub record IsBook (book : BookView) : Type 0 where
   pub bytes : book.queue.bytes ≡ book.limits.bytes
   pub batch : book.queue.batch ≡ book.limits.batch
   pub parked_small : IsSmall book.queue.parked
+  pub plans : book.tally.broken ≡ None → IfSome (tables book.seen) (HasPlans book)
   pub machine : Machine
   pub is : IsBookOf book machine
 
@@ -169,11 +172,13 @@ pub record LastIsSafe (book : BookView) (trace : List Event) : Type 0 where
 abbrev pub OwnLoadIsSafe : BookView → Type 0
 OwnLoadIsSafe book = IfSome (dock_events book.seen) (LastIsSafe book)
 
--- A call leaves the whole trace safe, where it was so before, and bounded, where it was that, by every reading that is right of its
--- lines.
+-- What a call leaves of the whole trace, by every reading that is right of its lines: it is safe where it was so before, and so it is
+-- bounded, its store's events fit one another, and its loads are those of a run of the engine.
 pub record StaySafe (streams : List ConfStream) (most : ℕ) (read : Reading) (before now : List Event) : Type 0 where
   pub safe : IsSafeDest streams read before → IsSafeDest streams read now
   pub bounded : AreBounded most read before → AreBounded most read now
+  pub store : IsStoreRun before → IsStoreRun now
+  pub engine : AreEngineLoads streams read before → AreEngineLoads streams read now
 
 abbrev pub KeepsSafeOf : List ConfStream → ℕ → DockSeen → DockSeen → Type 0
 KeepsSafeOf streams most old new =
@@ -182,6 +187,12 @@ KeepsSafeOf streams most old new =
 
 abbrev pub KeepsSafe : BookView → BookView → Type 0
 KeepsSafe old new = KeepsSafeOf old.catalog (old.limits.slots + 1) old.seen new.seen
+
+-- A call leaves what the book was started with.
+pub record KeepsOpened (old new : BookView) : Type 0 where
+  pub catalog : new.catalog ≡ old.catalog
+  pub opening : new.opening ≡ old.opening
+  pub limits : new.limits ≡ old.limits
 
 -- What a call is to the machine: accept takes at most once, then seals, then releases; pick hands out at most once; put is one commit
 -- with its releases; give_back takes the batch back by its number; recall takes back; finish merges and shows.

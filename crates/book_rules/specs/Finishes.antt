@@ -9,7 +9,7 @@ use Rattle.outside.specs.declared.fault.Fault.{Fault}
 use Rattle.outside.specs.declared.fault.Fault.TheVariants as fault
 use Rattle.outside.specs.declared.status.Status.{Status}
 use Rattle.outside.specs.declared.status.Status.TheVariants as status
-use Rattle.dedup_merge.specs.Pages.{IsAnswer, PageAdds}
+use Rattle.dedup_merge.specs.Pages.{IsAnswer, PageAdds, rows_of_page}
 use Rattle.dedup_merge.specs.declared.pages.MergeFault.{MergeFault}
 use Rattle.dedup_merge.specs.declared.pages.MergeFault.TheVariants as merge_fault
 use Rattle.dedup_merge.specs.declared.pages.Merged.{Merged}
@@ -46,6 +46,7 @@ pub record MergesOne (result : Result Merged MergeFault) (stream page : ℕ) (ol
   pub merges : PageAdds result stream page old new
   pub answer : IfOk result (λ answer. IfSome (tables new) (λ store. IsAnswer answer store stream))
   pub rows_read : ReadAtMost (2 * page) old.rows_read new.rows_read
+  pub reads : IfSome (tables old) (λ store. ReadAtMost (rows_of_page store stream page) old.rows_read new.rows_read)
   pub faults : RoseIf (IsErrOf result merge_fault.StoreFault) old.counts.store_faults new.counts.store_faults
   pub counts : new.counts ≡ record (old.counts) { store_faults = new.counts.store_faults }
 

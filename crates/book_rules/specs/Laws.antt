@@ -14,7 +14,7 @@ use Rattle.book_rules.specs.declared.answer.Accepted.{Accepted}
 use Rattle.book_rules.specs.declared.answer.Finished.{Finished}
 use Rattle.book_rules.specs.declared.answer.Put.{Put}
 use Rattle.book_rules.specs.Accepts.{AcceptAnswer}
-use Rattle.book_rules.specs.Books.{IsAcceptRun, IsBook, IsFinishRun, IsGiveBackRun, IsNoRun, IsPickRun, IsPutRun, IsRecallRun, KeepsSafe, KeepsSafeOf, OwnLoadIsSafe, Runs}
+use Rattle.book_rules.specs.Books.{IsAcceptRun, IsBook, IsFinishRun, IsGiveBackRun, IsNoRun, IsPickRun, IsPutRun, IsRecallRun, KeepsOpened, KeepsSafe, KeepsSafeOf, OwnLoadIsSafe, Runs}
 use Rattle.book_rules.specs.Finishes.{CanFinish, FinishAnswer}
 use Rattle.book_rules.specs.Hands.{PushAnswer, TakeOutputAnswer, closed}
 use Rattle.book_rules.specs.Holds.{CanPut, IsReady}
@@ -22,10 +22,11 @@ use Rattle.book_rules.specs.Puts.{GiveBackAnswer, PickAnswer, PutAnswer, recalle
 use Rattle.book_rules.specs.Starts.{RefusedBy, Starts}
 use Rattle.book_rules.specs.Views.{BookView}
 
--- It is a book again; the call was a run of the machine; the dock went on; the book's own load is safe and bounded, and the whole trace
--- where it was before.
+-- It is a book again; the call was a run of the machine; the dock went on; the book's own load is safe and bounded, and so is the whole
+-- trace, and a run of its store and of the engine, where it was that before.
 pub record Keeps (shape : List Step → Type 0) (old new : BookView) : Type 0 where
   pub book : IsBook new
+  pub opened : KeepsOpened old new
   pub runs : Runs shape old new
   pub moves : DockMoves old.seen new.seen
   pub grew : DockGrew old.seen new.seen
@@ -53,6 +54,7 @@ FinishKeeps = (stream : ℕ) (result : Result Finished Status) (old new : BookVi
 -- the calls of a dock in memory are no event, and no step
 pub record HandKeeps (old new : BookView) : Type 0 where
   pub book : IsBook new
+  pub opened : KeepsOpened old new
   pub runs : Runs IsNoRun old new
   pub own : OwnLoadIsSafe new
   pub safe : KeepsSafe old new
@@ -66,7 +68,7 @@ CloseKeeps = (torn : Option (List ℕ)) (old new : BookView) → IsBook old → 
 abbrev pub TakeOutputKeeps : Type 0
 TakeOutputKeeps = (given : Option (List ℕ)) (old new : BookView) → IsBook old → TakeOutputAnswer given old new → HandKeeps old new
 
--- A book that was started is a book, and the whole trace is safe and bounded where it was before.
+-- A book that was started is a book, and the whole trace is what it was before: safe, bounded, a run of its store and of the engine.
 pub record IsBegun (before : DockSeen) (begun : BookView) : Type 0 where
   pub book : IsBook begun
   pub own : OwnLoadIsSafe begun
@@ -77,7 +79,7 @@ StartsBegin = (streams : List ConfStream) (limits : Limits) (before : DockSeen) 
 
 -- so does a start that is refused
 abbrev pub RefusedKeeps : Type 0
-RefusedKeeps = (stop : Status) (streams : List ConfStream) (most : ℕ) (before now : DockSeen) → RefusedBy stop streams before now → KeepsSafeOf streams most before now
+RefusedKeeps = (stop : Status) (streams : List ConfStream) (most : ℕ) (before now : DockSeen) → AreConfigured streams → RefusedBy stop streams before now → KeepsSafeOf streams most before now
 
 -- of every book its own load is safe and bounded
 abbrev pub BooksAreSafe : Type 0

@@ -8,4 +8,5 @@ pub mod Starts
 pub mod Hands
 pub mod Holds
 pub mod Books
+pub mod Endings
 pub mod Laws

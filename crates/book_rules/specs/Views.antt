@@ -1,10 +1,13 @@
 -- What contracts see of a book.
-use Rattle.std.specs.Prelude.{◌≡◌, ℕ, List, slice_get, Bool, true, false, Option, None, Some}
+use Rattle.std.specs.Prelude.{◌≡◌, ℕ, List, [], ◌∷◌, slice_get, Bool, true, false, Option, None, Some}
 use Rattle.basics.specs.declared.stream.StreamId.{StreamId}
 use Rattle.airbyte_message.specs.declared.stream_status.StreamStatus.{StreamStatus}
 use Rattle.json_fields.specs.Answer.{IsAnswer}
 use Rattle.outside.specs.Dock.{DockSeen}
+use Rattle.outside.specs.Tables.{shown_plan}
+use Rattle.outside.specs.declared.event.StreamPlan.{StreamPlan}
 use Rattle.outside.specs.declared.load.Limits.{Limits}
+use Rattle.outside.specs.declared.table.Tables.{Tables}
 use Rattle.catalog.specs.declared.stream.ConfStream.{ConfStream}
 use Rattle.catalog.specs.Reading.{ids_of}
 use Rattle.state_gate.specs.Views.{GateView}
@@ -47,3 +50,17 @@ state_of tally = broken_state tally.broken tally.is_ended
 -- the number of a stream, None where the catalog has none
 abbrev pub IsNumberIn : List ConfStream → StreamId → Option ℕ → Type 0
 IsNumberIn catalog id found = IsAnswer (λ number. slice_get (ids_of catalog) number ≡ Some id) found
+
+-- the plan of a stream as the load goes on: one that was shown is hidden no more
+abbrev pub plan_now : StreamPlan → Bool → StreamPlan
+plan_now plan true = shown_plan plan
+plan_now plan false = plan
+
+abbrev pub plans_now : List StreamPlan → List Bool → List StreamPlan
+plans_now [] shown = []
+plans_now (plan ∷ plans) [] = plan ∷ plans
+plans_now (plan ∷ plans) (flag ∷ shown) = plan_now plan flag ∷ plans_now plans shown
+
+-- the store's load has the plans that the book's load was opened with, but for the streams that the book has shown
+abbrev pub HasPlans : BookView → Tables → Type 0
+HasPlans book store = store.plan ≡ plans_now book.opening.plan book.shown

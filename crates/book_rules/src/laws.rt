@@ -1,4 +1,5 @@
 // What each call on a book leads to, as contracts of functions that do nothing.
+ghost use Rattle.book_rules.specs.Endings.{DrainedEndsLoad, EndsFinished, EndsIncomplete, FinishIsDone, FinishLeaves, FinishLeavesDone, ReadersReadLast};
 ghost use Rattle.book_rules.specs.Laws.{AcceptKeeps, BooksAreReady, BooksAreSafe, BooksCanFinish, BooksCanPut, CloseKeeps, FinishKeeps, GiveBackKeeps, PickKeeps, PushKeeps, PutKeeps, RecallKeeps, RefusedKeeps, StartsBegin, TakeOutputKeeps};
 
 /// A call on the input is a run of the machine: a line at most, then seals, then releases.
@@ -74,4 +75,39 @@ pub fn books_can_put()
 /// Each stream of a book can be finished.
 pub fn books_can_finish()
     ensures { BooksCanFinish }
+{}
+
+/// A stream whose finish is answered `Kept` or `Shown` is merged, where it is deduplicated, and not hidden any more.
+pub fn finish_is_done()
+    ensures { FinishIsDone }
+{}
+
+/// A finish leaves each stream done that was done.
+pub fn finish_leaves_done()
+    ensures { FinishLeavesDone }
+{}
+
+/// A finish leaves all else of a book.
+pub fn finish_leaves()
+    ensures { FinishLeaves }
+{}
+
+/// Who reads a whole trace rightly reads its last load rightly.
+pub fn readers_read_last()
+    ensures { ReadersReadLast }
+{}
+
+/// The load of a book that has drained is done.
+pub fn drained_ends_load()
+    ensures { DrainedEndsLoad }
+{}
+
+/// Where each stream is complete and done, the load is finished.
+pub fn ends_finished()
+    ensures { EndsFinished }
+{}
+
+/// Where each stream that is complete is done, and one is not complete, the load is finished but for such streams.
+pub fn ends_incomplete()
+    ensures { EndsIncomplete }
 {}
