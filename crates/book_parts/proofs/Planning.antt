@@ -1,22 +1,17 @@
 -- The plan of a load, stream by stream.
 use Rattle.std.proofs.Common.{arith, ◌≡◌, ◌⊎◌, inl, inr, ℕ, zero, suc, ◌+◌, ◌<◌, ◌≤◌, ◌%◌, List, [], ◌∷◌, ◌++◌, map, length, take, refl, sym, ◌∙◌, ap, subst, true, false, None, Some, eq-eqb}
 use Rattle.std.specs.Prelude.{slice_get, filter, ◌==◌}
-use Rattle.std.specs.List.{AllByRecursion, enumerate_from}
-use Rattle.std.proofs.lemmas.Bool.{cases_Bool}
+use Rattle.std.specs.List.{enumerate_from}
 use Rattle.std.proofs.lemmas.List.{map-append, take_more, take_all}
 use Rattle.std.proofs.lemmas.Option.{none-some, get_or_from_slice_get, slice_get_within}
 use Rattle.basics.specs.declared.stream.StreamId.{StreamId}
-use Rattle.outside.specs.Dock.{HasOtherId, HasOwnIds}
-use Rattle.outside.specs.Tables.{same_id}
 use Rattle.outside.specs.declared.event.StreamPlan.{StreamPlan}
 use Rattle.outside.specs.declared.load.Marks.{Marks}
-use Rattle.outside.proofs.TableLaws.{id_is}
 use Rattle.catalog.specs.Parts.{part_of}
 use Rattle.catalog.specs.Reading.{ids_of}
 use Rattle.catalog.specs.declared.stream.ConfStream.{ConfStream}
 use Rattle.column_types.specs.Columns.{AreColumns}
 use Rattle.column_types.specs.declared.column.Column.{Column}
-use Rattle.stream_index.specs.Distinct.{AreDistinct}
 use Rattle.load_rules.specs.Engine.{HasGeneration, IsOverwrite, PlansFit}
 use Rattle.book_rules.specs.Starts.{AreColumnsOf, ArePlansOf, IsPlanOf, LacksAt, LacksGeneration}
 
@@ -88,29 +83,6 @@ pub plans_fit : (marks : List Marks) (streams : List ConfStream) (plans : List S
 plans_fit [] [] [] all = tt
 plans_fit (m ∷ ms) (s ∷ ss) (p ∷ ps) all = (all.0.fits, plans_fit ms ss ps all.1)
 plans_fit _ _ _ all = absurd all
-
--- no two plans of a catalog have one id
-others_apart : (id : StreamId) (streams : List ConfStream) (plans : List StreamPlan) → PlansFit streams plans → ((k : ℕ) → ¬ (slice_get (ids_of streams) k ≡ Some id)) → AllByRecursion (HasOtherId id) plans
-others_apart id [] [] fit apart = tt
-others_apart id [] (plan ∷ plans) fit apart = absurd fit
-others_apart id (stream ∷ streams) [] fit apart = absurd fit
-others_apart id (stream ∷ streams) (plan ∷ plans) fit apart = (at (cases_Bool (same_id plan.id id)), others_apart id streams plans fit.1 (λ k. apart (suc k)))
-  where
-    at : (same_id plan.id id ≡ true) ⊎ (same_id plan.id id ≡ false) → same_id plan.id id ≡ false
-    at (inl same) = absurd (apart zero (ap Some (sym fit.0.id ∙ id_is plan.id id same)))
-    at (inr other) = other
-
-later_distinct : (id : StreamId) (ids : List StreamId) → AreDistinct (id ∷ ids) → AreDistinct ids
-later_distinct id ids distinct i j item here there = let same = distinct (suc i) (suc j) item here there in omega arith
-
-pub own_ids : (streams : List ConfStream) (plans : List StreamPlan) → PlansFit streams plans → AreDistinct (ids_of streams) → HasOwnIds plans
-own_ids [] [] fit distinct = tt
-own_ids [] (plan ∷ plans) fit distinct = absurd fit
-own_ids (stream ∷ streams) [] fit distinct = absurd fit
-own_ids (stream ∷ streams) (plan ∷ plans) fit distinct = (
-  others_apart plan.id streams plans fit.1 (λ k here. let same = distinct zero (suc k) stream.id refl (here ∙ ap Some fit.0.id) in omega arith),
-  own_ids streams plans fit.1 (later_distinct stream.id (ids_of streams) distinct),
-)
 
 -- Columns and ids
 

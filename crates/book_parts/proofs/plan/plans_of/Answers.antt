@@ -1,7 +1,8 @@
 use Rattle.std.proofs.Common.{arith, length, ◌≤◌, subst, sym}
 use Rattle.outside.specs.declared.faults.CatalogFault.{CatalogFault}
 use Rattle.book_rules.specs.Starts.{LacksFirst}
-use Rattle.book_parts.proofs.Planning.{lacks_first, own_ids, plans_done, plans_fit, plans_step}
+use Rattle.book_parts.proofs.Planning.{lacks_first, plans_done, plans_fit, plans_step}
+use Rattle.book_rules.proofs.Planned.{own_ids}
 use Rattle.book_parts.proofs.plan.plans_of.Goals as goal
 
 pub loop-number-preserved : goal.loop-number-preserved
