@@ -5,7 +5,7 @@ ghost use Rattle.outside.specs.Dock.{DockGrew, DockMoves};
 ghost use Rattle.outside.specs.Hand.{IsOpen};
 ghost use Rattle.outside.specs.Limits.{AreLimits};
 ghost use Rattle.book_rules.specs.Accepts.{AcceptAnswer};
-ghost use Rattle.book_rules.specs.Books.{IsAcceptRun, IsBook, IsFinishRun, IsGiveBackRun, IsNoRun, IsPickRun, IsPutRun, IsRecallRun, KeepsSafe, KeepsSafeOf, OwnLoadIsSafe, Runs};
+ghost use Rattle.book_rules.specs.Books.{IsAcceptRun, IsBook, IsFinishRun, IsGiveBackRun, IsNoRun, IsPickRun, IsPutRun, IsRecallRun, KeepsOpened, KeepsSafe, KeepsSafeOf, OwnLoadIsSafe, Runs};
 ghost use Rattle.book_rules.specs.Finishes.{FinishAnswer};
 ghost use Rattle.book_rules.specs.Hands.{PushAnswer, TakeOutputAnswer, closed};
 ghost use Rattle.book_rules.specs.Puts.{GiveBackAnswer, PickAnswer, PutAnswer, recalled};
@@ -72,9 +72,10 @@ impl<D: Dock + Drop> Book<D> {
 
     /// Takes a line from the input, where one stands ready, or tries again the record that waits for room. A line may bring
     /// states with it that are released.
-    #[tactic(auto, using(book_rules::proofs::Kept::books_are_ready, book_rules::proofs::Kept::accept_book, book_rules::proofs::Kept::accept_runs, book_rules::proofs::Kept::accept_moves, book_rules::proofs::Kept::accept_grew, book_rules::proofs::Kept::accept_own, book_rules::proofs::Kept::accept_safe))]
+    #[tactic(auto, using(book_rules::proofs::Kept::books_are_ready, book_rules::proofs::Kept::accept_book, book_rules::proofs::Kept::accept_opened, book_rules::proofs::Kept::accept_runs, book_rules::proofs::Kept::accept_moves, book_rules::proofs::Kept::accept_grew, book_rules::proofs::Kept::accept_own, book_rules::proofs::Kept::accept_safe))]
     pub fn accept(&mut self) -> Accepted
         ensures answer { AcceptAnswer result self.old self.new }
+        ensures opened { KeepsOpened self.old self.new }
         ensures runs { Runs IsAcceptRun self.old self.new }
         ensures moves { DockMoves self.old.seen self.new.seen }
         ensures grew { DockGrew self.old.seen self.new.seen }
@@ -85,9 +86,10 @@ impl<D: Dock + Drop> Book<D> {
     }
 
     /// Hands out a batch: the front of the sealed records of the stream whose first one is oldest.
-    #[tactic(auto, using(book_rules::proofs::Kept::book_streams, book_rules::proofs::Kept::pick_book, book_rules::proofs::Kept::pick_runs, book_rules::proofs::Kept::pick_own, book_rules::proofs::Kept::pick_safe))]
+    #[tactic(auto, using(book_rules::proofs::Kept::book_streams, book_rules::proofs::Kept::pick_book, book_rules::proofs::Kept::pick_opened, book_rules::proofs::Kept::pick_runs, book_rules::proofs::Kept::pick_own, book_rules::proofs::Kept::pick_safe))]
     pub fn pick(&mut self) -> Result<Option<WorkItem>, NoMemory>
         ensures answer { PickAnswer result self.old self.new }
+        ensures opened { KeepsOpened self.old self.new }
         ensures runs { Runs IsPickRun self.old self.new }
         ensures own { OwnLoadIsSafe self.new }
         ensures safe { KeepsSafe self.old self.new }
@@ -96,9 +98,10 @@ impl<D: Dock + Drop> Book<D> {
     }
 
     /// Commits a batch that is handed out, and releases all states that this sets free.
-    #[tactic(auto, using(book_rules::proofs::Kept::books_can_put, book_rules::proofs::Kept::put_book, book_rules::proofs::Kept::put_runs, book_rules::proofs::Kept::put_moves, book_rules::proofs::Kept::put_grew, book_rules::proofs::Kept::put_own, book_rules::proofs::Kept::put_safe))]
+    #[tactic(auto, using(book_rules::proofs::Kept::books_can_put, book_rules::proofs::Kept::put_book, book_rules::proofs::Kept::put_opened, book_rules::proofs::Kept::put_runs, book_rules::proofs::Kept::put_moves, book_rules::proofs::Kept::put_grew, book_rules::proofs::Kept::put_own, book_rules::proofs::Kept::put_safe))]
     pub fn put(&mut self, done: Prepared) -> Put
         ensures answer { PutAnswer done result self.old self.new }
+        ensures opened { KeepsOpened self.old self.new }
         ensures runs { Runs IsPutRun self.old self.new }
         ensures moves { DockMoves self.old.seen self.new.seen }
         ensures grew { DockGrew self.old.seen self.new.seen }
@@ -109,9 +112,10 @@ impl<D: Dock + Drop> Book<D> {
     }
 
     /// Seals a batch again; it comes back where no batch with its number is handed out.
-    #[tactic(auto, using(book_rules::proofs::Kept::give_back_book, book_rules::proofs::Kept::give_back_runs, book_rules::proofs::Kept::give_back_own, book_rules::proofs::Kept::give_back_safe))]
+    #[tactic(auto, using(book_rules::proofs::Kept::give_back_book, book_rules::proofs::Kept::give_back_opened, book_rules::proofs::Kept::give_back_runs, book_rules::proofs::Kept::give_back_own, book_rules::proofs::Kept::give_back_safe))]
     pub fn give_back(&mut self, item: WorkItem) -> Option<WorkItem>
         ensures answer { GiveBackAnswer item result self.old self.new }
+        ensures opened { KeepsOpened self.old self.new }
         ensures runs { Runs (IsGiveBackRun item.batch) self.old self.new }
         ensures own { OwnLoadIsSafe self.new }
         ensures safe { KeepsSafe self.old self.new }
@@ -120,9 +124,10 @@ impl<D: Dock + Drop> Book<D> {
     }
 
     /// Seals every batch again that is handed out.
-    #[tactic(auto, using(book_rules::proofs::Kept::recall_book, book_rules::proofs::Kept::recall_runs, book_rules::proofs::Kept::recall_own, book_rules::proofs::Kept::recall_safe))]
+    #[tactic(auto, using(book_rules::proofs::Kept::recall_book, book_rules::proofs::Kept::recall_opened, book_rules::proofs::Kept::recall_runs, book_rules::proofs::Kept::recall_own, book_rules::proofs::Kept::recall_safe))]
     pub fn recall(&mut self)
         ensures answer { self.new ≡ recalled self.old }
+        ensures opened { KeepsOpened self.old self.new }
         ensures runs { Runs IsRecallRun self.old self.new }
         ensures own { OwnLoadIsSafe self.new }
         ensures safe { KeepsSafe self.old self.new }
@@ -132,10 +137,11 @@ impl<D: Dock + Drop> Book<D> {
 
     /// Merges a stream's rows, page by page, where it is deduplicated, and shows it, where it is hidden and was not shown yet: once
     /// the input has ended, all records are committed, and its source said last that it is complete.
-    #[tactic(auto, using(book_rules::proofs::Finishing::books_can_finish, book_rules::proofs::Finishing::finish_book, book_rules::proofs::Finishing::finish_runs, book_rules::proofs::Finishing::finish_moves, book_rules::proofs::Finishing::finish_grew, book_rules::proofs::Finishing::finish_own, book_rules::proofs::Finishing::finish_safe))]
+    #[tactic(auto, using(book_rules::proofs::Finishing::books_can_finish, book_rules::proofs::Finishing::finish_book, book_rules::proofs::Finishing::finish_opened, book_rules::proofs::Finishing::finish_runs, book_rules::proofs::Finishing::finish_moves, book_rules::proofs::Finishing::finish_grew, book_rules::proofs::Finishing::finish_own, book_rules::proofs::Finishing::finish_safe))]
     pub fn finish(&mut self, stream: StreamNo) -> Result<Finished, Status>
         requires { stream < length self.old.catalog }
         ensures answer { FinishAnswer stream result self.old self.new }
+        ensures opened { KeepsOpened self.old self.new }
         ensures runs { Runs IsFinishRun self.old self.new }
         ensures moves { DockMoves self.old.seen self.new.seen }
         ensures grew { DockGrew self.old.seen self.new.seen }
@@ -157,10 +163,11 @@ impl<D: Dock + Drop> Book<D> {
 
 impl<D: HandDock + Drop> Book<D> {
     /// Puts a line behind those that wait in the dock's input.
-    #[tactic(auto, using(book_rules::proofs::Handing::push_book, book_rules::proofs::Handing::push_runs, book_rules::proofs::Handing::push_own))]
+    #[tactic(auto, using(book_rules::proofs::Handing::push_book, book_rules::proofs::Handing::push_opened, book_rules::proofs::Handing::push_runs, book_rules::proofs::Handing::push_own))]
     pub fn push_input(&mut self, line: Bytes) -> Result<(), NoMemory>
         requires { IsOpen self.old.seen.face.hand }
         ensures answer { PushAnswer result line self.old self.new }
+        ensures opened { KeepsOpened self.old self.new }
         ensures runs { Runs IsNoRun self.old self.new }
         ensures own { OwnLoadIsSafe self.new }
     {
@@ -168,9 +175,10 @@ impl<D: HandDock + Drop> Book<D> {
     }
 
     /// Ends the dock's input, with a last piece that has no newline. A blank one is nothing.
-    #[tactic(auto, using(book_rules::proofs::Handing::close_book, book_rules::proofs::Handing::close_runs, book_rules::proofs::Handing::close_own))]
+    #[tactic(auto, using(book_rules::proofs::Handing::close_book, book_rules::proofs::Handing::close_opened, book_rules::proofs::Handing::close_runs, book_rules::proofs::Handing::close_own))]
     pub fn close_input(&mut self, torn: Option<Bytes>)
         ensures answer { self.new ≡ closed torn self.old }
+        ensures opened { KeepsOpened self.old self.new }
         ensures runs { Runs IsNoRun self.old self.new }
         ensures own { OwnLoadIsSafe self.new }
     {
@@ -178,9 +186,10 @@ impl<D: HandDock + Drop> Book<D> {
     }
 
     /// The next emitted line that was not taken out; `None` exactly where there is none.
-    #[tactic(auto, using(book_rules::proofs::Handing::take_output_book, book_rules::proofs::Handing::take_output_runs, book_rules::proofs::Handing::take_output_own))]
+    #[tactic(auto, using(book_rules::proofs::Handing::take_output_book, book_rules::proofs::Handing::take_output_opened, book_rules::proofs::Handing::take_output_runs, book_rules::proofs::Handing::take_output_own))]
     pub fn take_output(&mut self) -> Option<Bytes>
         ensures answer { TakeOutputAnswer result self.old self.new }
+        ensures opened { KeepsOpened self.old self.new }
         ensures runs { Runs IsNoRun self.old self.new }
         ensures own { OwnLoadIsSafe self.new }
     {
