@@ -26,6 +26,41 @@ impl<D: Dock + Drop> Parts<D> {
         }
     }
 
+    /// How many streams the catalog has.
+    pub fn streams(&self) -> u32
+        ensures { result ≡ length self.now.catalog }
+    {
+        self.opened.catalog().len()
+    }
+
+    /// How many records were taken.
+    pub fn taken(&self) -> u64
+        ensures { result ≡ self.now.gate.next }
+    {
+        self.gate.next()
+    }
+
+    /// How many echoes were emitted.
+    pub fn emitted(&self) -> u64
+        ensures { result ≡ self.now.tally.emitted }
+    {
+        self.tally.emitted
+    }
+
+    /// Waits until something may have changed in the input.
+    pub fn wait(&mut self)
+        ensures { self.new ≡ self.old }
+    {
+        self.dock.wait();
+    }
+
+    /// The dock, to look at.
+    pub fn dock(&self) -> &D
+        ensures { D.seen result.now ≡ self.now.seen }
+    {
+        &self.dock
+    }
+
     /// The dock, as it stands.
     pub fn into_dock(self) -> D
         ensures { D.seen result ≡ self.seen }

@@ -151,6 +151,48 @@ impl<D: Dock + Drop> Book<D> {
         self.parts.finish(stream)
     }
 
+    /// A book is a run of the machine, and what its dock tells is the load of that run: so much holds of every one.
+    pub fn stands(&self)
+        ensures { IsBook self.now }
+    {
+        let _ = &self.parts;
+    }
+
+    /// How many streams its catalog has.
+    pub fn streams(&self) -> u32
+        ensures { result ≡ length self.now.catalog }
+    {
+        self.parts.streams()
+    }
+
+    /// How many records of the load were taken, committed or not.
+    pub fn taken(&self) -> u64
+        ensures { result ≡ self.now.gate.next }
+    {
+        self.parts.taken()
+    }
+
+    /// How many states were released: their echoes are emitted.
+    pub fn emitted(&self) -> u64
+        ensures { result ≡ self.now.tally.emitted }
+    {
+        self.parts.emitted()
+    }
+
+    /// Waits until something may have changed in the dock's input, or for about a second.
+    pub fn wait(&mut self)
+        ensures { self.new ≡ self.old }
+    {
+        self.parts.wait();
+    }
+
+    /// The dock, to look at.
+    pub fn dock(&self) -> &D
+        ensures { D.seen result.now ≡ self.now.seen }
+    {
+        self.parts.dock()
+    }
+
     /// The dock, as it stands.
     #[tactic(auto, using(book_rules::proofs::Safe::own_is_safe))]
     pub fn into_dock(self) -> D
