@@ -1,6 +1,6 @@
 // A source of tables over a desk and rows in memory.
 ghost use Rattle.std.specs.Prelude.{IsTrue, ◌↔◌};
-ghost use Rattle.table_tests.specs.Rows.{RiseFrom};
+ghost use Rattle.source_tests.specs.Rows.{RiseFrom};
 
 use basics::{Bytes, FailList, Name, NoMemory};
 use outside::NumberedRow;

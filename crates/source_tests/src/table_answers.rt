@@ -1,5 +1,5 @@
 // The commands `spec`, `check` and `discover`, what is refused, and calls that fail.
-use crate::runs::{Row, Text, run};
+use crate::table_runs::{Row, Text, run};
 use basics::NoMemory;
 use std::alloc::Global;
 use std::test::Fail;

@@ -1,5 +1,5 @@
 // The command `read`. What is said was worked out by a Python program, by its own JSON, decimals and dates.
-use crate::runs::{Row, Text, run};
+use crate::table_runs::{Row, Text, run};
 use basics::NoMemory;
 use std::alloc::Global;
 use std::test::Fail;

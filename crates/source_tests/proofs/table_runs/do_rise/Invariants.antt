@@ -1,6 +1,6 @@
 use Rattle.std.proofs.Common.{◌↔◌, drop}
-use Rattle.table_tests.specs.Rows.{RiseFrom}
-use Rattle.table_tests.proofs.runs.do_rise.Given as goal
+use Rattle.source_tests.specs.Rows.{RiseFrom}
+use Rattle.source_tests.proofs.table_runs.do_rise.Given as goal
 
 -- all rise where those that are left do
 abbrev pub invariant-loop-entry : goal.invariant-loop-entry

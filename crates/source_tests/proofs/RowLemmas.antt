@@ -3,7 +3,7 @@ use Rattle.std.proofs.Common.{ℕ, List, [], ◌∷◌, ◌≤◌, true, false, 
 use Rattle.outside.specs.Rows.{AreRising}
 use Rattle.row_store.specs.MemRows.{AreTables, rows_of, is_of}
 use Rattle.row_store.specs.declared.mem_rows.TableRow.{TableRow}
-use Rattle.table_tests.specs.Rows.{RiseFrom}
+use Rattle.source_tests.specs.Rows.{RiseFrom}
 
 of_table : (table : List ℕ) (entries : List TableRow) (before low : ℕ) → low ≤ before → RiseFrom entries before → AreRising (rows_of entries table) low
 of_table table [] before low below rising = tt
