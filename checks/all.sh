@@ -1,6 +1,6 @@
 #!/usr/bin/env bash
 # Runs the checks over the worker that the gate has built, or builds it: the program's edge, a file of real messages where
-# that is at hand, and random JSON texts, random rows, stores in files and a source of files where python3 is. Each check that cannot run says so and is passed over.
+# that is at hand, and random JSON texts, random rows, stores in files, a source of files and one of tables where python3 is. Each check that cannot run says so and is passed over.
 set -u
 cd "$(dirname "${BASH_SOURCE[0]}")/.." || exit 2
 
@@ -34,5 +34,11 @@ if [ -x "$source" ] && command -v python3 >/dev/null 2>&1; then
     python3 checks/source_files.py "$source" "$worker" ../shared/data/zones.csv || failed=1
 else
     echo "checks: source_files was not built, or no python3, so no files are read"
+fi
+tables=crates/source_tables/out/source_tables
+if [ -x "$tables" ] && command -v python3 >/dev/null 2>&1; then
+    python3 checks/source_tables.py "$tables" || failed=1
+else
+    echo "checks: source_tables was not built, or no python3, so no tables are read"
 fi
 exit "$failed"

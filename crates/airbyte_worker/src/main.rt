@@ -1,24 +1,9 @@
 //! The worker's program: it does what its words ask for, and its exit status is the number of the run's status.
 #![tactic(auto)]
 
-use outside::{NoLink, NoMemory, Status, StdDesk};
-use std::env;
-use std::io::ErrorKind;
+use outside::{NoLink, Status, StdDesk};
+use program_start::words_of;
 use std::process::ExitCode;
-
-// The words behind the program's name. A word that is not UTF-8 is none that any command takes, so there are no words then.
-fn words_of(rt: &HostRuntime) -> Result<Vec<String>, NoMemory> {
-    let mut words = Vec::new(rt.alloc());
-    let args = match env::args(rt) {
-        Ok(args) => args,
-        Err(error) if error.kind() == ErrorKind::OutOfMemory => return Err(NoMemory),
-        Err(_) => return Ok(words),
-    };
-    for word in args.skip(1) {
-        words.push(word)?;
-    }
-    Ok(words)
-}
 
 // Runs the worker over the files and the standard output of this process.
 fn status_of(rt: &HostRuntime) -> Status {

@@ -26,7 +26,7 @@ use Rattle.table_config.specs.declared.config.TableConfig.{TableConfig}
 use Rattle.table_config.specs.declared.config.TableEntry.{TableEntry}
 use Rattle.table_feed.specs.Source.{NoRow, NoStart, NoTable, OpensTable, StartsWith}
 use Rattle.table_run.specs.Begun.{IsTold}
-use Rattle.table_run.specs.Runs.{BadConfig, Config, MayByConfig, MayReadTables, is_source_end}
+use Rattle.table_run.specs.Runs.{BadConfig, Config, MayByConfig, MayReadTables, is_lines_end, is_source_end}
 
 -- where this ends, it ends so
 abbrev pub EndsSo : (Status → Type 0) → Left → Type 0
@@ -73,26 +73,26 @@ streams_end P Opens moment number (stream ∷ streams) (start ∷ starts) ok ref
 ok_not_err : {A : Type 0} (a : A) (why : Status) → ◌≡◌ {A = Result A Status} (Err why) (Ok a) → ⊥
 ok_not_err a why e = cc
 
-is_end : {A : Type 0} (why last : Status) → ◌≡◌ {A = Result A Status} (Err why) (Err last) → is_source_end last ≡ true → is_source_end why ≡ true
-is_end why last e own = let same : why ≡ last = cc in ap is_source_end same ∙ own
+is_end : {A : Type 0} (why last : Status) → ◌≡◌ {A = Result A Status} (Err why) (Err last) → is_lines_end last ≡ true → is_lines_end why ≡ true
+is_end why last e own = let same : why ≡ last = cc in ap is_lines_end same ∙ own
 
-refused_end : (told : Option RowsByTable) (tables : List TableEntry) (number : ℕ) (stream : ConfStream) (start : Option (List ℕ)) (why : Status) → OpensTable told tables number stream start (Err why) → is_source_end why ≡ true
-refused_end told tables number stream start why (NoTable none is) = ap is_source_end is
-refused_end told tables number stream start why (NoStart none is) = ap is_source_end is
-refused_end told tables number stream start why (NoRow id unfit is) = ap is_source_end is
+refused_end : (told : Option RowsByTable) (tables : List TableEntry) (number : ℕ) (stream : ConfStream) (start : Option (List ℕ)) (why : Status) → OpensTable told tables number stream start (Err why) → is_lines_end why ≡ true
+refused_end told tables number stream start why (NoTable none is) = ap is_lines_end is
+refused_end told tables number stream start why (NoStart none is) = ap is_lines_end is
+refused_end told tables number stream start why (NoRow id unfit is) = ap is_lines_end is
 
-all_end : (told : Option RowsByTable) (tables : List TableEntry) (number : ℕ) (streams : List ConfStream) (starts : List (Option (List ℕ))) → RefusedSo (λ why. is_source_end why ≡ true) (OpensTable told tables) number streams starts
+all_end : (told : Option RowsByTable) (tables : List TableEntry) (number : ℕ) (streams : List ConfStream) (starts : List (Option (List ℕ))) → RefusedSo (λ why. is_lines_end why ≡ true) (OpensTable told tables) number streams starts
 all_end told tables number [] starts = tt
 all_end told tables number (stream ∷ streams) [] = tt
 all_end told tables number (stream ∷ streams) (start ∷ starts) = (λ why e. refused_end told tables number stream start why e, all_end told tables (number + 1) streams starts)
 
 -- ---- the statuses that texts are refused with
 
-catalog_end : (fault : CatalogFault) → is_source_end (catalog_status fault) ≡ true
+catalog_end : (fault : CatalogFault) → is_lines_end (catalog_status fault) ≡ true
 catalog_end catalogs.NoMemory = refl
 catalog_end other = refl
 
-state_end : (fault : StateFault) → is_source_end (state_status fault) ≡ true
+state_end : (fault : StateFault) → is_lines_end (state_status fault) ≡ true
 state_end state.NoMemory = refl
 state_end other = refl
 
@@ -100,33 +100,33 @@ pub config_end : (fault : ConfigFault) → is_source_end (config_status fault) �
 config_end config.NoMemory = refl
 config_end other = refl
 
-begins_end : (tables : List TableEntry) (catalog states : List ℕ) (why : Status) → BeginsAs StartsWith (is_table tables) catalog states (Err why) → is_source_end why ≡ true
+begins_end : (tables : List TableEntry) (catalog states : List ℕ) (why : Status) → BeginsAs StartsWith (is_table tables) catalog states (Err why) → is_lines_end why ≡ true
 begins_end tables catalog states why begins = in_catalog begins.0 begins.2
   where
-    in_streams : (list : List State) (streams : List ConfStream) → BeginsStreams StartsWith list streams (Err why) → is_source_end why ≡ true
+    in_streams : (list : List State) (streams : List ConfStream) → BeginsStreams StartsWith list streams (Err why) → is_lines_end why ≡ true
     in_streams list streams (inl blob) = is_end why (status.BadState state.Blob) blob.1 refl
     in_streams list streams (inr found) = absurd (ok_not_err _ why found.2)
 
-    in_kinds : (is_global : Bool) (list : List State) (streams : List ConfStream) → BeginsUnless is_global (BeginsStreams StartsWith list streams) (Err why) → is_source_end why ≡ true
+    in_kinds : (is_global : Bool) (list : List State) (streams : List ConfStream) → BeginsUnless is_global (BeginsStreams StartsWith list streams) (Err why) → is_lines_end why ≡ true
     in_kinds true list streams e = is_end why (status.BadState state.Blob) e refl
     in_kinds false list streams found = in_streams list streams found
 
-    in_states : (streams : List ConfStream) (reading : Result (List State) StateFault) → MatchResult reading (λ list. BeginsUnless (has_kind is_global_kind list) (BeginsStreams StartsWith list streams) (Err why)) (λ fault. ◌≡◌ {A = Begun (Option (List ℕ))} (Err why) (Err (state_status fault))) → is_source_end why ≡ true
+    in_states : (streams : List ConfStream) (reading : Result (List State) StateFault) → MatchResult reading (λ list. BeginsUnless (has_kind is_global_kind list) (BeginsStreams StartsWith list streams) (Err why)) (λ fault. ◌≡◌ {A = Begun (Option (List ℕ))} (Err why) (Err (state_status fault))) → is_lines_end why ≡ true
     in_states streams (Err fault) e = is_end why (state_status fault) e (state_end fault)
     in_states streams (Ok list) found = in_kinds (has_kind is_global_kind list) list streams found
 
-    in_known : (unknown : Option ℕ) (streams : List ConfStream) → BeginsKnown unknown (BeginsStates StartsWith states streams) (Err why) → is_source_end why ≡ true
+    in_known : (unknown : Option ℕ) (streams : List ConfStream) → BeginsKnown unknown (BeginsStates StartsWith states streams) (Err why) → is_lines_end why ≡ true
     in_known (Some number) streams e = is_end why (status.BadCatalog (catalogs.Missing number)) e refl
     in_known None streams found = in_states streams found.0 found.2
 
-    in_catalog : (reading : Result (List ConfStream) CatalogFault) → MatchResult reading (λ streams. BeginsKnown (first_unknown (is_table tables) 0 streams) (BeginsStates StartsWith states streams) (Err why)) (λ fault. ◌≡◌ {A = Begun (Option (List ℕ))} (Err why) (Err (catalog_status fault))) → is_source_end why ≡ true
+    in_catalog : (reading : Result (List ConfStream) CatalogFault) → MatchResult reading (λ streams. BeginsKnown (first_unknown (is_table tables) 0 streams) (BeginsStates StartsWith states streams) (Err why)) (λ fault. ◌≡◌ {A = Begun (Option (List ℕ))} (Err why) (Err (catalog_status fault))) → is_lines_end why ≡ true
     in_catalog (Err fault) e = is_end why (catalog_status fault) e (catalog_end fault)
     in_catalog (Ok streams) found = in_known (first_unknown (is_table tables) 0 streams) streams found
 
 -- ---- what the command `read` may say
 
 abbrev pub IsEnd : Status → Type 0
-IsEnd why = is_source_end why ≡ true
+IsEnd why = is_lines_end why ≡ true
 
 pub tables_end : (told : Option RowsByTable) (moment : ℕ) (config : TableConfig) (catalog states : List ℕ) (left : Left) → MayReadTables told moment config catalog states left → EndsSo IsEnd left
 tables_end told moment config catalog states left may = by may.0 may.1 may.2

@@ -20,7 +20,7 @@ use Rattle.table_config.specs.Config.{ReadsConfig}
 use Rattle.table_config.specs.declared.config.TableConfig.{TableConfig}
 use Rattle.table_source.specs.Discovered.{discover_line}
 use Rattle.table_run.specs.Begun.{MaySayBegun, SaysBegun}
-use Rattle.table_run.specs.Runs.{BadConfig, CannotOpen, Config, CouldNotOpen, EndsBy, EndsSaid, IsChecked, IsGiven, IsOpened, IsTextUnder, MayByConfig, MayCheck, MayDiscover, MayDiscoverBy, MayRead, MayReadBy, MayReadTables, MaySay, MaySayOne, NoConfig, Outside, ReadsOnly, ReadsUnder, RunsAs, SaysRun, Succeeded, WasOpened, is_source_end, outside_of, read_status}
+use Rattle.table_run.specs.Runs.{BadConfig, CannotOpen, Config, CouldNotOpen, EndsBy, EndsLate, EndsSaid, IsChecked, IsEarly, IsGiven, IsOpened, IsTextUnder, MayByConfig, MayCheck, MayDiscover, MayDiscoverBy, MayRead, MayReadBy, MayReadTables, MaySay, MaySayOne, NoConfig, Outside, ReadsOnly, ReadsUnder, RunsAs, SaysRun, Succeeded, WasOpened, is_lines_end, is_source_end, outside_of, read_status}
 use Rattle.table_run.specs.declared.run.Given.{Given}
 use Rattle.table_run.proofs.EndLemmas.{config_end, tables_end}
 
@@ -289,7 +289,7 @@ line_cause why (inr write) = inr (inr write)
 pub tables_said : (result : Status) (told : Option RowsByTable) (moment : ℕ) (config : TableConfig) (catalog states : List ℕ) (MayBegin : Result Left Status → Type 0) (old new : Outside)
     → ((left : Left) → MaySayBegun MayBegin left → MayReadTables told moment config catalog states left) → SaysBegun result MayBegin old.rows.faults new.rows.faults old.desk new.desk
     → old.rows.faults ≤ new.rows.faults → SaysOnly ⊥ old.desk new.desk → (¬ (result ≡ status.WriteFault) → new.desk.say_faults ≡ old.desk.say_faults)
-    → RunsAs result (λ opened failed. MayReadTables told moment config catalog states) old new × (result ≢ status.Usage)
+    → RunsAs result (λ opened failed. MayReadTables told moment config catalog states) old new × EndsLate result
 tables_said result told moment config catalog states MayBegin old new from says rows only stays = (
   record {
     says = record { left = says.left; may = may says.may; said = says.said; ends = cause says.ends };
@@ -299,7 +299,7 @@ tables_said result told moment config catalog states MayBegin old new from says 
     say_stays = stays;
     texts = only.texts;
   },
-  λ e. usage e says.ends,
+  late says.ends,
 )
   where
     Ends : Type 0
@@ -315,15 +315,15 @@ tables_said result told moment config catalog states MayBegin old new from says 
     cause (inr (inr (inl lost))) = inr (inr (inr (inl lost)))
     cause (inr (inr (inr wrote))) = inr (inr (inr (inr wrote)))
 
-    by_may : (says.left ≡ anything) ⊎ MaySayBegun MayBegin says.left → says.left.ends ≡ Some result → is_source_end result ≡ true
+    by_may : (says.left ≡ anything) ⊎ MaySayBegun MayBegin says.left → says.left.ends ≡ Some result → is_lines_end result ≡ true
     by_may (inl none) is = absurd (none_some (sym (ap (λ (l : Left). l.ends) none) ∙ is))
       where
         none_some : ¬ (◌≡◌ {A = Option Status} None (Some result))
         none_some e = cc
     by_may (inr begun) is = tables_end told moment config catalog states says.left (from says.left begun) result is
 
-    ended : (why : Status) → result ≡ why → is_source_end why ≡ false → says.left.ends ≡ Some result → ⊥
-    ended why e other is = let own = by_may says.may is in let same = ap is_source_end e in cc
+    ended : (why : Status) → result ≡ why → is_lines_end why ≡ false → says.left.ends ≡ Some result → ⊥
+    ended why e other is = let own = by_may says.may is in let same = ap is_lines_end e in cc
 
     file : result ≡ status.FileFault → Ends → ⊥
     file e (inl is) = ended status.FileFault e refl is
@@ -331,11 +331,11 @@ tables_said result told moment config catalog states MayBegin old new from says 
     file e (inr (inr (inl lost))) = let l = lost.0 in cc
     file e (inr (inr (inr wrote))) = let w = wrote.0 in cc
 
-    usage : result ≡ status.Usage → Ends → ⊥
-    usage e (inl is) = ended status.Usage e refl is
-    usage e (inr (inl memory)) = cc
-    usage e (inr (inr (inl lost))) = let l = lost.0 in cc
-    usage e (inr (inr (inr wrote))) = let w = wrote.0 in cc
+    late : Ends → EndsLate result
+    late (inl is) = inl (by_may says.may is)
+    late (inr (inl memory)) = inl (ap is_lines_end memory)
+    late (inr (inr (inl lost))) = inr (inl lost.0)
+    late (inr (inr (inr wrote))) = inr (inr wrote.0)
 
     row : result ≡ status.RowFault → Ends → Rose old.rows.faults new.rows.faults
     row e (inl is) = absurd (ended status.RowFault e refl is)
@@ -348,6 +348,20 @@ tables_said result told moment config catalog states MayBegin old new from says 
     write e (inr (inl memory)) = absurd (cc)
     write e (inr (inr (inl lost))) = let l = lost.0 in absurd (cc)
     write e (inr (inr (inr wrote))) = wrote.1
+
+pub late_not_usage : (result : Status) → EndsLate result → result ≢ status.Usage
+late_not_usage result (inl lines) e = let same = ap is_lines_end e in cc
+late_not_usage result (inr (inl row)) e = cc
+late_not_usage result (inr (inr write)) e = cc
+
+pub late_not_early : (result : Status) → EndsLate result → IsEarly result → ⊥
+late_not_early status.FileFault (inl lines) early = cc
+late_not_early status.FileFault (inr (inl row)) early = cc
+late_not_early status.FileFault (inr (inr write)) early = cc
+late_not_early (status.BadConfig fault) (inl lines) early = cc
+late_not_early (status.BadConfig fault) (inr (inl row)) early = cc
+late_not_early (status.BadConfig fault) (inr (inr write)) early = cc
+late_not_early other late early = early
 
 -- ---- the command `check`
 

@@ -153,6 +153,20 @@ IsRead (Some asked.Spec) = ⊥
 IsRead (Some (asked.Check config)) = ⊥
 IsRead None = ⊥
 
+-- the answers that a command `read` gives before its catalog is judged
+abbrev pub IsEarly : Status → Type 0
+IsEarly status.FileFault = Unit {0}
+IsEarly (status.BadConfig fault) = Unit {0}
+IsEarly other = ⊥
+
+-- the runs that leave the store of rows alone: `check` and `read` alone open it, and `read` only behind its texts and its configuration
+abbrev pub LeavesRows : Option SourceAsked → Status → Type 0
+LeavesRows None result = Unit {0}
+LeavesRows (Some asked.Spec) result = Unit {0}
+LeavesRows (Some (asked.Discover config)) result = Unit {0}
+LeavesRows (Some (asked.Check config)) result = ⊥
+LeavesRows (Some (asked.Read config catalog state)) result = IsEarly result
+
 -- ---- a run that its words, its texts and the rows let end well
 
 -- the tables of these streams have rows only that are rows
@@ -223,6 +237,19 @@ is_source_end (status.BadConfig fault) = true
 is_source_end (status.BadCatalog fault) = true
 is_source_end (status.BadState fault) = true
 is_source_end other = false
+
+-- a status that the catalog, the states and the rows of a source may end a run with
+abbrev pub is_lines_end : Status → Bool
+is_lines_end status.Ok = true
+is_lines_end status.NoMemory = true
+is_lines_end (status.BadRow stream row) = true
+is_lines_end (status.BadCatalog fault) = true
+is_lines_end (status.BadState fault) = true
+is_lines_end other = false
+
+-- an answer of the command `read` behind its texts and its configuration
+abbrev pub EndsLate : Status → Type 0
+EndsLate result = (is_lines_end result ≡ true) ⊎ ((result ≡ status.RowFault) ⊎ (result ≡ status.WriteFault))
 
 abbrev pub outside_of : DeskSeen → RowsSeen → Outside
 outside_of desk rows = record { desk = desk; rows = rows }

@@ -8,15 +8,18 @@ ghost use Rattle.table_source.specs.Discovered.{spec_line};
 ghost use Rattle.table_run.specs.Runs.{
   AreStatesUnder,
   CouldNotOpen,
+  EndsLate,
   EndsRead,
   EndsSaid,
   EndsUnread,
   IsChecked,
   IsComplete,
+  IsEarly,
   IsGiven,
   IsOpened,
   IsRead,
   IsRefused,
+  LeavesRows,
   MayCheck,
   MayDiscover,
   MayDiscoverBy,
@@ -142,6 +145,7 @@ fn run_check<K: Desk, R: RowStore>(
 fn discover_by<K: Desk>(alloc: Global, desk: &mut K, text: &[u8]) -> Status
     ensures runs { (rows : RowsSeen) → RunsAs result (λ opened failed. MayDiscover text.now) (outside_of (K.seen desk.old) rows) (outside_of (K.seen desk.new) rows) }
     ensures cause { EndsRead result }
+    ensures read { result ≢ status.FileFault }
 {
     let config = match read_table_config(alloc, text) {
         Ok(config) => config,
@@ -157,6 +161,7 @@ fn discover_by<K: Desk>(alloc: Global, desk: &mut K, text: &[u8]) -> Status
 fn run_discover<K: Desk>(alloc: Global, desk: &mut K, config: &str) -> Status
     ensures runs { (rows : RowsSeen) → RunsAs result (λ opened failed. MayDiscoverBy (K.seen desk.old).texts config.now) (outside_of (K.seen desk.old) rows) (outside_of (K.seen desk.new) rows) }
     ensures cause { EndsRead result }
+    ensures unsaid { result ≡ status.FileFault → (K.seen desk.new).said ≡ (K.seen desk.old).said }
 {
     match desk.read_text(alloc, config) {
         Ok(text) => discover_by(alloc, desk, text.as_slice()),
@@ -214,7 +219,7 @@ fn say_tables<K: Desk, R: RowStore + Drop>(
     given: &Given,
 ) -> SourceEnd<R>
     ensures runs { RunsAs result.status (λ opened failed. MayReadTables (R.seen rows).rows now_ms config given.now.catalog given.now.states) (outside_of (K.seen desk.old) (R.seen rows)) (outside_of (K.seen desk.new) (R.seen result.rows)) }
-    ensures no_usage { result.status ≢ status.Usage }
+    ensures late { EndsLate result.status }
 {
     let mut feed = SourceFeed::new(TableSource { rows, config }, now_ms);
     let status = begin_and_say(
@@ -240,6 +245,8 @@ fn run_read<K: Desk, R: RowStore + Drop>(
 ) -> SourceEnd<R>
     ensures runs { RunsAs result.status (λ opened failed. MayRead (R.seen rows).rows now_ms given.now) (outside_of (K.seen desk.old) (R.seen rows)) (outside_of (K.seen desk.new) (R.seen result.rows)) }
     ensures no_usage { result.status ≢ status.Usage }
+    ensures read { result.status ≢ status.FileFault }
+    ensures unopened { IsEarly result.status → R.seen result.rows ≡ R.seen rows }
 {
     match read_table_config(alloc, given.config.as_slice()) {
         Ok(config) => say_tables(alloc, desk, rows, now_ms, config, given),
@@ -262,6 +269,8 @@ fn run_read_by<K: Desk, R: RowStore + Drop>(
 ) -> SourceEnd<R>
     ensures runs { RunsAs result.status (λ opened failed. MayReadBy (K.seen desk.old).texts (R.seen rows).rows now_ms config.now catalog.now (option_copied state.entry)) (outside_of (K.seen desk.old) (R.seen rows)) (outside_of (K.seen desk.new) (R.seen result.rows)) }
     ensures no_usage { result.status ≢ status.Usage }
+    ensures unsaid { result.status ≡ status.FileFault → (K.seen desk.new).said ≡ (K.seen desk.old).said }
+    ensures unopened { IsEarly result.status → R.seen result.rows ≡ R.seen rows }
 {
     match read_given(alloc, desk, config, catalog, state) {
         Ok(given) => run_read(alloc, desk, rows, now_ms, &given),
@@ -303,6 +312,8 @@ pub fn run_source<K: Desk, R: RowStore + Drop>(
     ensures unread { result.status ≡ status.FileFault → EndsUnread (source_asked (map string_bytes words.now)) }
     ensures complete { IsComplete result.status (source_asked (map string_bytes words.now)) (outside_of (K.seen desk.old) (R.seen rows)) (outside_of (K.seen desk.new) (R.seen result.rows)) }
     ensures rowless { result.status ≡ status.RowFault → IsRead (source_asked (map string_bytes words.now)) }
+    ensures unsaid { result.status ≡ status.FileFault → (K.seen desk.new).said ≡ (K.seen desk.old).said }
+    ensures unopened { LeavesRows (source_asked (map string_bytes words.now)) result.status → R.seen result.rows ≡ R.seen rows }
 {
     match source_words(words) {
         Some(SourceCommand::Spec) => {

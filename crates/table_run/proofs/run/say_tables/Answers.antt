@@ -36,8 +36,8 @@ returns-clause-runs g c =
     (MayBeginBy (BeginsAs StartsWith (is_table c.args.config.tables) c.args.given.now.catalog c.args.given.now.states) (OpensTable (seen c.args.rows).rows c.args.config.tables) c.args.now_ms)
     old new (λ left may. may) by_states faults c.begin_and_say-status.ensures.only c.begin_and_say-status.ensures.stays).0
 
-pub returns-clause-no_usage : goal.returns-clause-no_usage
-returns-clause-no_usage g c =
+pub returns-clause-late : goal.returns-clause-late
+returns-clause-late g c =
     let seen = g.R.RowStore.seen in
     let old = outside_of (g.K.Desk.seen c.args.desk.now) (seen c.args.rows) in
     let new = outside_of (g.K.Desk.seen c.begin_and_say-status.new.desk) (seen c.into_source.result.rows) in
