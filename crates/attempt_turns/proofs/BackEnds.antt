@@ -53,6 +53,7 @@ use Rattle.attempt_turns.specs.Heard.{BackEnds, HalfSaidBack, HearsBack, SaysLin
 use Rattle.attempt_turns.specs.History.{Ran}
 use Rattle.attempt_turns.specs.Worker.{ComesBack, HasCode, HasGot, IsOn, Stands, is_error, is_error_saying, is_error_told, source_held}
 use Rattle.attempt_turns.specs.declared.worker.Worker.{Worker}
+use Rattle.attempt_turns.proofs.Placed.{placed_on}
 use Rattle.attempt_turns.proofs.Lists.{any_one, each_one, got_over_one, gots_one, same_gives, same_gots, same_reads}
 use Rattle.attempt_turns.proofs.ReadLemmas.{answer_only}
 use Rattle.attempt_turns.proofs.EndLemmas.{clean, desk_same, ends_way, less_same, no_events, none_said, owes_nothing, rightly}
@@ -366,14 +367,17 @@ end_way_back w old new desk going added grew = record {
 }
   where
     on_end : (streams : List ConfStream) (read : Reading) (own : Running) → IsOn w streams read own → IsOn (got_over_worker w) streams read (and_event GotEnd own)
-    on_end streams read own on = on_back w w.ledger w.set w.got_lines true streams read own GotEnd (record {
-      back = end_back;
-      right = tt;
-      ledger_is = goes_on (ids_of streams) own.start read own.events (source_held w) w.ledger GotEnd (record { none_read = refl; none_given = refl; none_got = refl }) on.ledger;
-      kept = on.kept;
-      fits = record { has_streams = on.set_fits.has_streams; of_streams = on.set_fits.of_streams; of_all = on.set_fits.of_all };
-      no_error = ap (list_any (is_error side.Dest read)) (same_gots own.events GotEnd refl) ∙ on.none_ends.no_error_back;
-      comes = tt;
-      got_so = got_over_one own.events GotEnd;
-      number = on.got_lines ∙ ap length (sym (same_gots own.events GotEnd refl));
-    }) on
+    on_end streams read own on =
+        let ledger = goes_on (ids_of streams) own.start read own.events (source_held w) w.ledger GotEnd (record { none_read = refl; none_given = refl; none_got = refl }) on.ledger in
+        on_back w w.ledger w.set w.got_lines true streams read own GotEnd (record {
+          back = end_back;
+          right = tt;
+          ledger_is = ledger;
+          placed = placed_on (ids_of streams) read own.events (source_held w) w.ledger own.start GotEnd refl refl ledger on.placed;
+          kept = on.kept;
+          fits = record { has_streams = on.set_fits.has_streams; of_streams = on.set_fits.of_streams; of_all = on.set_fits.of_all };
+          no_error = ap (list_any (is_error side.Dest read)) (same_gots own.events GotEnd refl) ∙ on.none_ends.no_error_back;
+          comes = tt;
+          got_so = got_over_one own.events GotEnd;
+          number = on.got_lines ∙ ap length (sym (same_gots own.events GotEnd refl));
+        }) on

@@ -48,8 +48,10 @@ use Rattle.ledger_rules.proofs.Stands.{gets, takes}
 use Rattle.attempt_turns.specs.Acts.{Place, does, lines_of, lines_saying, lines_told, place_after}
 use Rattle.attempt_turns.specs.Heard.{GoesOnBack, HeardBack, HearsBack, lines_echoed}
 use Rattle.attempt_turns.specs.History.{Ran}
+use Rattle.attempt_turns.specs.Placed.{ArePlaced}
 use Rattle.attempt_turns.specs.Worker.{ClosedBehind, ComesBack, HasGot, IsOn, Owes, SetFits, Stands, is_error, is_error_saying, is_error_told, left_to_give, source_held, untold_from}
 use Rattle.attempt_turns.specs.declared.worker.Worker.{Worker}
+use Rattle.attempt_turns.proofs.Placed.{placed_got}
 use Rattle.attempt_turns.proofs.Lists.{any_one, each_one, got_over_one, gots_one, read_over_one, reading_one, same_gives, same_gots, same_reads}
 use Rattle.attempt_turns.proofs.ReadLemmas.{answer_only}
 use Rattle.attempt_turns.proofs.EndLemmas.{desk_same, no_events, none_said}
@@ -99,6 +101,7 @@ pub record BackSo (w : Worker) (ledger : Noted) (set : Saved) (got_lines : ℕ) 
   pub back : IsBack event
   pub right : ReadsEvent read event
   pub ledger_is : IsLedgerOf (ids_of streams) own.start read (own.events ++ event ∷ []) (source_held w) ledger
+  pub placed : ArePlaced (ids_of streams) read (own.events ++ event ∷ []) (source_held w) ledger
   pub kept : generations_in set ≡ generations_in own.start
   pub fits : SetFits (back_worker w ledger set got_lines over) streams
   pub no_error : list_any (is_error side.Dest read) (gots (own.events ++ event ∷ [])) ≡ false
@@ -114,6 +117,7 @@ on_back w ledger set got_lines over streams read own event so on =
       orderly = on.orderly;
       reading = reading_one read events event on.reading so.right;
       ledger = so.ledger_is;
+      placed = so.placed;
       start = on.start;
       kept = so.kept;
       set_fits = so.fits;
@@ -157,7 +161,7 @@ in_attempt {P} own attempt runs is = subst (λ it. InAttempt it P) runs is
 
 pub came : (text : List ℕ) (w : Worker) (call : Call) (streams : List ConfStream) (read : Reading) (here : Place) (said : List (List ℕ)) → HasGot text w call streams read here said → Came text w call streams read here said
 came text w call streams read here said has =
-    let gets_so = in_attempt {Gets read has.before.standing.sync text has.now} has.before.standing.sync.attempt has.stood.attempt has.stood.runs has.steps in
+    let gets_so = in_attempt {P = Gets read has.before.standing.sync text has.now} has.before.standing.sync.attempt has.stood.attempt has.stood.runs has.steps in
     record {
       before = has.before;
       stood = has.stood;
@@ -299,10 +303,12 @@ on_got text answer w now call streams read here said goes heard =
     let events = own.events in
     let on = heard.came_so.stood.on in
     let form_same = same_back_form w.ledger now.ledger (echoed_told read text) answer heard.echoed_so in
+    let ledger = gets (ids_of streams) own.start read events (source_held w) w.ledger now.ledger text answer on.ledger heard.echoed_so in
     on_back w now.ledger w.set (w.got_lines + 1) w.got_over streams read own (Got text) (record {
       back = got_back text;
       right = heard.came_so.right;
-      ledger_is = gets (ids_of streams) own.start read events (source_held w) w.ledger now.ledger text answer on.ledger heard.echoed_so;
+      ledger_is = ledger;
+      placed = placed_got (ids_of streams) own.start read events (source_held w) w.ledger now.ledger text answer heard.echoed_so ledger on.placed;
       kept = on.kept;
       fits = record {
         has_streams = on.set_fits.has_streams;

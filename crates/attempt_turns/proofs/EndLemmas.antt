@@ -73,11 +73,11 @@ all_said end asked said same = same
 pub clean : (w : Worker) (streams : List ConfStream) (read : Reading) (own : Running) → IsOn w streams read own → IsClean (ids_of streams) read own
 clean w streams read own on = record { unbroken = on.ledger.unbroken; none_ends = on.none_ends }
 
-less_same : (m n : ℕ) → m ≡ n → m < n → ⊥
+pub less_same : (m n : ℕ) → m ≡ n → m < n → ⊥
 less_same m n same less = omega (arith, same, less)
 
 pub given_front : (w : Worker) (streams : List ConfStream) (read : Reading) (own : Running) → IsOn w streams read own → w.is_completing ≡ false → w.completed ≡ 0 → IsPrefix (gives own.events) (texts (passed (ids_of streams) read own.events))
-given_front w streams read own on none zero = (option_to_list w.held, on.own_lines none zero)
+given_front w streams read own on none first = (option_to_list w.held, on.own_lines none first)
 
 -- the code stays known
 pub coded : (w : Worker) (old new : Seen) → Live w old → new.face.codes.source ≡ old.face.codes.source → HasCode w new.face

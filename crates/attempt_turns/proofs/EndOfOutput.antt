@@ -27,6 +27,7 @@ use Rattle.attempt_turns.specs.History.{Ran}
 use Rattle.attempt_turns.specs.Heard.{HeardSource}
 use Rattle.attempt_turns.specs.Worker.{ComesBack, IsOn, IsReadable, Live, Stands, is_error, left_to_give, source_held, untold_from}
 use Rattle.attempt_turns.specs.declared.worker.Worker.{Worker}
+use Rattle.attempt_turns.proofs.Placed.{placed_on}
 use Rattle.attempt_turns.proofs.Lists.{any_one, each_one, got_over_one, read_over_one, reading_one, same_gives, same_gots, same_reads}
 use Rattle.attempt_turns.proofs.ReadLemmas.{no_completions, none_left, runs_on}
 use Rattle.attempt_turns.proofs.EndLemmas.{desk_same, none_said}
@@ -60,10 +61,12 @@ on_end w streams read own readable on =
     let ids = ids_of streams in
     let events = own.events in
     let none = on.reads_first readable.going in
+    let ledger = goes_on ids own.start read events (source_held w) w.ledger ReadEnd (record { none_read = refl; none_given = refl; none_got = refl }) on.ledger in
     record {
       orderly = on.orderly;
       reading = reading_one read events ReadEnd on.reading tt;
-      ledger = goes_on ids own.start read events (source_held w) w.ledger ReadEnd (record { none_read = refl; none_given = refl; none_got = refl }) on.ledger;
+      ledger = ledger;
+      placed = placed_on ids read events (source_held w) w.ledger own.start ReadEnd refl refl ledger on.placed;
       start = on.start;
       kept = on.kept;
       set_fits = record { has_streams = on.set_fits.has_streams; of_streams = on.set_fits.of_streams; of_all = on.set_fits.of_all };

@@ -50,8 +50,10 @@ use Rattle.ledger_rules.proofs.Stands.{reads_on}
 use Rattle.attempt_turns.specs.Acts.{Going, does, Place, is_refused, lines_of, lines_told, lines_saying, place_after, reads_in}
 use Rattle.attempt_turns.specs.History.{Leads, Ran}
 use Rattle.attempt_turns.specs.Heard.{GoesOn, HeardSource, lines_answered}
+use Rattle.attempt_turns.specs.Placed.{ArePlaced}
 use Rattle.attempt_turns.specs.Worker.{ComesBack, IsOn, IsReadable, Stands, is_error, is_error_told, is_error_saying, left_to_give, source_held, untold_from}
 use Rattle.attempt_turns.specs.declared.worker.Worker.{Worker}
+use Rattle.attempt_turns.proofs.Placed.{placed_read}
 use Rattle.attempt_turns.proofs.Lists.{any_one, each_one, got_over_one, passed_one, read_over_one, reading_one, reads_one, same_gives, same_gots}
 
 -- ---- one answer
@@ -243,13 +245,17 @@ on_read w streams read own text answer ledger right empty going opened few goes 
     let next = events ++ ReadLine text ∷ [] in
     let told = told_is w read text answer ledger by in
     let completing = (on.reads_first going).0 in
-    let heard_is = reads_on ids own.start read events w.ledger text answer on.orderly.distinct on.start
-    (subst (λ line. IsLedgerOf ids own.start read events line w.ledger) (not_completing w w.held completing ∙ empty) on.ledger) by.judged_is in
+    let none_held = not_completing w w.held completing ∙ empty in
+    let idle = subst (λ line. IsLedgerOf ids own.start read events line w.ledger) none_held on.ledger in
+    let heard_is = reads_on ids own.start read events w.ledger text answer on.orderly.distinct on.start idle by.judged_is in
+    let given = sym (on.own_lines completing (on.reads_first going).1 ∙ (ap (λ held. gives events ++ option_to_list held) empty ∙ append-nil (gives events))) in
+    let placed = placed_read ids own.start read events w.ledger text answer (sym (few_lines ids w streams read own on)) idle.holds given heard_is (subst (λ line. ArePlaced ids read events line w.ledger) none_held on.placed) in
     let gives_it = passes_on ids own.start read events (source_held w) w.ledger text answer on.ledger by.judged_is in
     record {
       orderly = on.orderly;
       reading = reading_one read events (ReadLine text) on.reading right;
       ledger = subst (λ line. IsLedgerOf ids own.start read next line ledger) (sym (not_completing w (held_by answer text) completing)) (subst (IsLedgerOf ids own.start read next (held_by answer text)) (sym by.ledger_is) heard_is);
+      placed = subst (λ line. ArePlaced ids read next line ledger) (sym (not_completing w (held_by answer text) completing)) (subst (ArePlaced ids read next (held_by answer text)) (sym by.ledger_is) placed);
       start = on.start;
       kept = on.kept;
       set_fits = record {

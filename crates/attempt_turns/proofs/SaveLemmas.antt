@@ -37,6 +37,7 @@ use Rattle.attempt_turns.specs.Heard.{SaveEnds, SayEnds, SaysFront, SaysLines}
 use Rattle.attempt_turns.specs.History.{KeepsDesk, Ran}
 use Rattle.attempt_turns.specs.Worker.{HasCode, IsOn, Owes, Stands, is_error, source_held}
 use Rattle.attempt_turns.specs.declared.worker.Worker.{Worker}
+use Rattle.attempt_turns.proofs.Placed.{placed_on}
 use Rattle.attempt_turns.proofs.Lists.{any_one, got_over_one, same_gives, same_gots, same_reads}
 use Rattle.attempt_turns.proofs.EndLemmas.{desk_same, less_same, no_events, none_said, rightly}
 use Rattle.attempt_turns.proofs.BackLemmas.{IsBack, on_back}
@@ -114,10 +115,12 @@ on_saved taken now w call streams read here said puts =
     let own = puts.owes.attempt in
     let on = puts.owes.on in
     let event = Saved (store_text now) in
+    let ledger = goes_on (ids_of streams) own.start read own.events (source_held w) w.ledger event (record { none_read = refl; none_given = refl; none_got = refl }) on.ledger in
     on_back w w.ledger now w.got_lines w.got_over streams read own event (record {
       back = saved_back (store_text now);
       right = tt;
-      ledger_is = goes_on (ids_of streams) own.start read own.events (source_held w) w.ledger event (record { none_read = refl; none_given = refl; none_got = refl }) on.ledger;
+      ledger_is = ledger;
+      placed = placed_on (ids_of streams) read own.events (source_held w) w.ledger own.start event refl refl ledger on.placed;
       kept = puts.so.kept ∙ on.kept;
       fits = record { has_streams = puts.so.fits.has_streams; of_streams = puts.so.fits.of_streams; of_all = puts.so.fits.of_all };
       no_error = ap (list_any (is_error side.Dest read)) (same_gots own.events event refl) ∙ on.none_ends.no_error_back;
