@@ -51,6 +51,8 @@ use Rattle.attempt_turns.specs.Acts.{Place, does, lines_told, place_after}
 use Rattle.attempt_turns.specs.Ends.{CanStop, Ends, EndsSo, ErrsSo, RefusesBackLast, SaidSo, TurnCause, is_again}
 use Rattle.attempt_turns.specs.Heard.{BackEnds, HalfSaidBack, HearsBack, SaysLines, lines_echoed}
 use Rattle.attempt_turns.specs.History.{Ran}
+use Rattle.attempt_turns.specs.Silence.{Steps}
+use Rattle.attempt_turns.specs.declared.worker.Moved.TheVariants as moved
 use Rattle.attempt_turns.specs.Worker.{ComesBack, HasCode, HasGot, IsOn, Stands, is_error, is_error_saying, is_error_told, source_held}
 use Rattle.attempt_turns.specs.declared.worker.Worker.{Worker}
 use Rattle.attempt_turns.proofs.Placed.{placed_on}
@@ -337,33 +339,36 @@ first_back_end (Some events) over going is = ap (λ b. Some (events ++ cond b []
 end_back : IsBack GotEnd
 end_back = record { none_read = refl; none_given = refl; not_ended = refl; not_closed = refl; same_over = λ b. refl }
 
-pub end_way_back : (w : Worker) (old new : Seen) (desk : DeskSeen) → w.got_over ≡ false → own_events new ≡ told_more (GotEnd ∷ []) (own_events old) → Grew old new → Ran (Stands w) (Stands (got_over_worker w)) old new desk desk
-end_way_back w old new desk going added grew = record {
-  acts = does GotEnd ∷ [];
-  lines = [];
-  added = added;
-  said = none_said desk;
-  grew = grew;
-  desk = desk_same desk;
-  leads = λ call streams read here said reading stands. (
-    place_after read here GotEnd (with_event GotEnd here.standing.sync),
-    (
-      with_event GotEnd here.standing.sync,
-      (subst (λ it. InAttempt it (λ attempt. got_over attempt.events ≡ false)) (sym stands.runs) (stands.on.going, stands.on.got_so ∙ going), refl),
-      subst (λ (n : ℕ). 0 < n) (sym stands.is_last.number) stands.is_last.positive,
-      record { works = stands.is_last.works; order = stands.is_last.number ∙ sym stands.is_last.ended },
-      refl,
-    ),
-    record {
-      is_last = record { begun = stands.is_last.begun; number = stands.is_last.number; positive = stands.is_last.positive; ended = stands.is_last.ended; works = stands.is_last.works };
-      attempt = and_event GotEnd stands.attempt;
-      runs = ap (option_map (and_event GotEnd)) stands.runs;
-      on = on_end streams read stands.attempt stands.on;
-      set = stands.set;
-      none_owed = stands.none_owed;
-      said_all = ap (λ list. list ++ []) stands.said_all;
-    },
-  );
+pub back_end_step : (w : Worker) (old new : Seen) (desk : DeskSeen) → w.got_over ≡ false → own_events new ≡ told_more (GotEnd ∷ []) (own_events old) → Grew old new → Steps moved.Yes (Stands w) (Stands (got_over_worker w)) old new desk desk
+back_end_step w old new desk going added grew = record {
+  ran = record {
+    acts = does GotEnd ∷ [];
+    lines = [];
+    added = added;
+    said = none_said desk;
+    grew = grew;
+    desk = desk_same desk;
+    leads = λ call streams read here said reading stands. (
+      place_after read here GotEnd (with_event GotEnd here.standing.sync),
+      (
+        with_event GotEnd here.standing.sync,
+        (subst (λ it. InAttempt it (λ attempt. got_over attempt.events ≡ false)) (sym stands.runs) (stands.on.going, stands.on.got_so ∙ going), refl),
+        subst (λ (n : ℕ). 0 < n) (sym stands.is_last.number) stands.is_last.positive,
+        record { works = stands.is_last.works; order = stands.is_last.number ∙ sym stands.is_last.ended },
+        refl,
+      ),
+      record {
+        is_last = record { begun = stands.is_last.begun; number = stands.is_last.number; positive = stands.is_last.positive; ended = stands.is_last.ended; works = stands.is_last.works };
+        attempt = and_event GotEnd stands.attempt;
+        runs = ap (option_map (and_event GotEnd)) stands.runs;
+        on = on_end streams read stands.attempt stands.on;
+        set = stands.set;
+        none_owed = stands.none_owed;
+        said_all = ap (λ list. list ++ []) stands.said_all;
+      },
+    );
+  };
+  are = inl refl;
 }
   where
     on_end : (streams : List ConfStream) (read : Reading) (own : Running) → IsOn w streams read own → IsOn (got_over_worker w) streams read (and_event GotEnd own)

@@ -24,6 +24,8 @@ use Rattle.sync_ledger.specs.declared.notes.TheConstants.{MOST_LINES}
 use Rattle.ledger_rules.proofs.Stands.{goes_on}
 use Rattle.attempt_turns.specs.Acts.{does, place_after}
 use Rattle.attempt_turns.specs.History.{Ran}
+use Rattle.attempt_turns.specs.Silence.{Steps}
+use Rattle.attempt_turns.specs.declared.worker.Moved.TheVariants as moved
 use Rattle.attempt_turns.specs.Heard.{HeardSource}
 use Rattle.attempt_turns.specs.Worker.{ComesBack, IsOn, IsReadable, Live, Stands, is_error, left_to_give, source_held, untold_from}
 use Rattle.attempt_turns.specs.declared.worker.Worker.{Worker}
@@ -87,31 +89,34 @@ on_end w streams read own readable on =
       own_lines = λ is_none zero. ap (λ list. texts (filter (λ line. passes ids line.found) (lines_read read list))) (same_reads events ReadEnd refl) ∙ (on.own_lines is_none zero ∙ ap (λ list. list ++ option_to_list w.held) (sym (same_gives events ReadEnd refl)));
     }
 
-pub end_way : (w : Worker) (old new : Seen) (desk : DeskSeen) → IsReadable w → Live w old → own_events new ≡ told_by (λ events. cond (read_over events) [] (ReadEnd ∷ [])) (own_events old) → Grew old new → Ran (Stands w) (Stands (over_worker w)) old new desk desk
-end_way w old new desk readable live added grew = record {
-  acts = does ReadEnd ∷ [];
-  lines = [];
-  added = added ∙ first_end (own_events old) w.read_over readable.going live.read_told;
-  said = none_said desk;
-  grew = grew;
-  desk = desk_same desk;
-  leads = λ call streams read here said reading stands. (
-    place_after read here ReadEnd (with_event ReadEnd here.standing.sync),
-    (
-      with_event ReadEnd here.standing.sync,
-      (runs_on here.standing.sync.attempt stands.attempt stands.runs stands.on.going (stands.on.read_so ∙ readable.going), refl),
-      subst (λ (n : ℕ). 0 < n) (sym stands.is_last.number) stands.is_last.positive,
-      record { works = stands.is_last.works; order = stands.is_last.number ∙ sym stands.is_last.ended },
-      refl,
-    ),
-    record {
-      is_last = record { begun = stands.is_last.begun; number = stands.is_last.number; positive = stands.is_last.positive; ended = stands.is_last.ended; works = stands.is_last.works };
-      attempt = and_event ReadEnd stands.attempt;
-      runs = ap (option_map (and_event ReadEnd)) stands.runs;
-      on = on_end w streams read stands.attempt readable stands.on;
-      set = stands.set;
-      none_owed = stands.none_owed;
-      said_all = ap (λ list. list ++ []) stands.said_all;
-    },
-  );
+pub end_step : (w : Worker) (old new : Seen) (desk : DeskSeen) → IsReadable w → Live w old → own_events new ≡ told_by (λ events. cond (read_over events) [] (ReadEnd ∷ [])) (own_events old) → Grew old new → Steps moved.Yes (Stands w) (Stands (over_worker w)) old new desk desk
+end_step w old new desk readable live added grew = record {
+  ran = record {
+    acts = does ReadEnd ∷ [];
+    lines = [];
+    added = added ∙ first_end (own_events old) w.read_over readable.going live.read_told;
+    said = none_said desk;
+    grew = grew;
+    desk = desk_same desk;
+    leads = λ call streams read here said reading stands. (
+      place_after read here ReadEnd (with_event ReadEnd here.standing.sync),
+      (
+        with_event ReadEnd here.standing.sync,
+        (runs_on here.standing.sync.attempt stands.attempt stands.runs stands.on.going (stands.on.read_so ∙ readable.going), refl),
+        subst (λ (n : ℕ). 0 < n) (sym stands.is_last.number) stands.is_last.positive,
+        record { works = stands.is_last.works; order = stands.is_last.number ∙ sym stands.is_last.ended },
+        refl,
+      ),
+      record {
+        is_last = record { begun = stands.is_last.begun; number = stands.is_last.number; positive = stands.is_last.positive; ended = stands.is_last.ended; works = stands.is_last.works };
+        attempt = and_event ReadEnd stands.attempt;
+        runs = ap (option_map (and_event ReadEnd)) stands.runs;
+        on = on_end w streams read stands.attempt readable stands.on;
+        set = stands.set;
+        none_owed = stands.none_owed;
+        said_all = ap (λ list. list ++ []) stands.said_all;
+      },
+    );
+  };
+  are = inl refl;
 }

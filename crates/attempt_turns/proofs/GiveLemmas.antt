@@ -31,6 +31,8 @@ use Rattle.sync_rules.specs.Calls.{Call}
 use Rattle.attempt_turns.specs.Acts.{Place, does, place_after}
 use Rattle.attempt_turns.specs.Ends.{CanStop, Ends, EndsSo}
 use Rattle.attempt_turns.specs.History.{Ran}
+use Rattle.attempt_turns.specs.Silence.{Steps}
+use Rattle.attempt_turns.specs.declared.worker.Moved.TheVariants as moved
 use Rattle.attempt_turns.specs.Placed.{ArePlaced}
 use Rattle.attempt_turns.proofs.LiveLemmas.{given_worker}
 use Rattle.attempt_turns.specs.Worker.{ComesBack, IsOn, Live, Stands, is_error, left_to_give}
@@ -38,8 +40,7 @@ use Rattle.attempt_turns.specs.declared.worker.Worker.{Worker}
 use Rattle.attempt_turns.proofs.Placed.{placed_given}
 use Rattle.attempt_turns.proofs.Lists.{any_one, each_one, gives_one, got_over_one, read_over_one, reading_one, same_gots, same_reads}
 use Rattle.attempt_turns.proofs.ReadLemmas.{not_completing}
-use Rattle.attempt_turns.proofs.EndLemmas.{coded, desk_same, failed_way, lacked_way, none_said, stays_way, unfinished_open}
-use Rattle.attempt_turns.proofs.Ways.{grew_none}
+use Rattle.attempt_turns.proofs.EndLemmas.{coded, desk_same, failed_way, lacked_way, none_said, unfinished_open}
 
 -- what is to be given is the same, and the line is no more held
 give_next : (ids : List StreamId) (read : Reading) (w : Worker) (own : Running) (text : List ℕ) → w.held ≡ Some text → to_give ids read own.events ≡ (gives own.events ++ option_to_list w.held) ++ left_to_give w ids read own.events
@@ -99,33 +100,36 @@ may_give w streams read text own attempt runs held opened on = subst (λ it. InA
   },
 )
 
-pub gives_way : (w : Worker) (text : List ℕ) (old new : Seen) (desk : DeskSeen) → w.held ≡ Some text → w.is_completing ≡ false → w.closed ≡ false → own_events new ≡ told_more (Given text ∷ []) (own_events old) → Grew old new → Ran (Stands w) (Stands (given_worker w)) old new desk desk
-gives_way w text old new desk held own_line opened added grew = record {
-  acts = does (Given text) ∷ [];
-  lines = [];
-  added = added;
-  said = none_said desk;
-  grew = grew;
-  desk = desk_same desk;
-  leads = λ call streams read here said reading stands. (
-    place_after read here (Given text) (with_event (Given text) here.standing.sync),
-    (
-      with_event (Given text) here.standing.sync,
-      (may_give w streams read text here.standing.sync.attempt stands.attempt stands.runs held opened stands.on, refl),
-      subst (λ (n : ℕ). 0 < n) (sym stands.is_last.number) stands.is_last.positive,
-      record { works = stands.is_last.works; order = stands.is_last.number ∙ sym stands.is_last.ended },
-      refl,
-    ),
-    record {
-      is_last = record { begun = stands.is_last.begun; number = stands.is_last.number; positive = stands.is_last.positive; ended = stands.is_last.ended; works = stands.is_last.works };
-      attempt = and_event (Given text) stands.attempt;
-      runs = ap (option_map (and_event (Given text))) stands.runs;
-      on = gives_on w streams read stands.attempt text reading.0 held own_line opened stands.on;
-      set = stands.set;
-      none_owed = stands.none_owed;
-      said_all = ap (λ list. list ++ []) stands.said_all;
-    },
-  );
+pub gives_step : (w : Worker) (text : List ℕ) (old new : Seen) (desk : DeskSeen) → w.held ≡ Some text → w.is_completing ≡ false → w.closed ≡ false → own_events new ≡ told_more (Given text ∷ []) (own_events old) → Grew old new → Steps moved.Yes (Stands w) (Stands (given_worker w)) old new desk desk
+gives_step w text old new desk held own_line opened added grew = record {
+  ran = record {
+    acts = does (Given text) ∷ [];
+    lines = [];
+    added = added;
+    said = none_said desk;
+    grew = grew;
+    desk = desk_same desk;
+    leads = λ call streams read here said reading stands. (
+      place_after read here (Given text) (with_event (Given text) here.standing.sync),
+      (
+        with_event (Given text) here.standing.sync,
+        (may_give w streams read text here.standing.sync.attempt stands.attempt stands.runs held opened stands.on, refl),
+        subst (λ (n : ℕ). 0 < n) (sym stands.is_last.number) stands.is_last.positive,
+        record { works = stands.is_last.works; order = stands.is_last.number ∙ sym stands.is_last.ended },
+        refl,
+      ),
+      record {
+        is_last = record { begun = stands.is_last.begun; number = stands.is_last.number; positive = stands.is_last.positive; ended = stands.is_last.ended; works = stands.is_last.works };
+        attempt = and_event (Given text) stands.attempt;
+        runs = ap (option_map (and_event (Given text))) stands.runs;
+        on = gives_on w streams read stands.attempt text reading.0 held own_line opened stands.on;
+        set = stands.set;
+        none_owed = stands.none_owed;
+        said_all = ap (λ list. list ++ []) stands.said_all;
+      },
+    );
+  };
+  are = inl refl;
 }
 
 -- ---- an offer that fails

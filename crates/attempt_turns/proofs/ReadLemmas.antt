@@ -1,5 +1,5 @@
 -- A line of the source is read and heard.
-use Rattle.std.proofs.Common.{arith, ◌≡◌, ℕ, ◌+◌, ◌<◌, ◌≤◌, List, [], ◌∷◌, ◌++◌, Bool, true, false, cond, ◌||◌, Option, None, Some, Result, Ok, Err, refl, sym, ◌∙◌, ap, subst, append_assoc, append-nil, length, length-append, nat_lt, le-ltb}
+use Rattle.std.proofs.Common.{arith, ◌≡◌, inl, ℕ, ◌+◌, ◌<◌, ◌≤◌, List, [], ◌∷◌, ◌++◌, Bool, true, false, cond, ◌||◌, Option, None, Some, Result, Ok, Err, refl, sym, ◌∙◌, ap, subst, append_assoc, append-nil, length, length-append, nat_lt, le-ltb}
 use Rattle.std.specs.Prelude.{filter, map, option_map, option_to_list, nat_eq}
 use Rattle.std.specs.List.{list_any}
 use Rattle.std.proofs.lemmas.List.{length-map}
@@ -49,6 +49,8 @@ use Rattle.ledger_rules.proofs.Judges.{err_ok, ok_is, passes_on, short_told}
 use Rattle.ledger_rules.proofs.Stands.{reads_on}
 use Rattle.attempt_turns.specs.Acts.{Going, does, Place, is_refused, lines_of, lines_told, lines_saying, place_after, reads_in}
 use Rattle.attempt_turns.specs.History.{Leads, Ran}
+use Rattle.attempt_turns.specs.Silence.{Steps}
+use Rattle.attempt_turns.specs.declared.worker.Moved.TheVariants as moved
 use Rattle.attempt_turns.specs.Heard.{GoesOn, HeardSource, lines_answered}
 use Rattle.attempt_turns.specs.Placed.{ArePlaced}
 use Rattle.attempt_turns.specs.Worker.{ComesBack, IsOn, IsReadable, Stands, is_error, is_error_told, is_error_saying, left_to_give, source_held, untold_from}
@@ -309,15 +311,18 @@ going_read w call streams read here said text going stands = (
   refl,
 )
 
-pub reads_way : (w now : Worker) (text : List ℕ) (old new : Seen) (desk_old desk_new : DeskSeen) → IsReadable w → own_events new ≡ told_more (ReadLine text ∷ []) (own_events old) → Grew old new → HeardSource w text now desk_old desk_new → Ran (Stands w) (Stands now) old new desk_old desk_new
-reads_way w now text old new desk_old desk_new readable added grew heard_is = record {
-  acts = does (ReadLine text) ∷ [];
-  lines = lines_answered heard_is.answer;
-  added = added;
-  said = heard_is.said.said;
-  grew = grew;
-  desk = heard_is.said.keeps;
-  leads = leads;
+pub reads_step : (w now : Worker) (text : List ℕ) (old new : Seen) (desk_old desk_new : DeskSeen) → IsReadable w → own_events new ≡ told_more (ReadLine text ∷ []) (own_events old) → Grew old new → HeardSource w text now desk_old desk_new → Steps moved.Yes (Stands w) (Stands now) old new desk_old desk_new
+reads_step w now text old new desk_old desk_new readable added grew heard_is = record {
+  ran = record {
+    acts = does (ReadLine text) ∷ [];
+    lines = lines_answered heard_is.answer;
+    added = added;
+    said = heard_is.said.said;
+    grew = grew;
+    desk = heard_is.said.keeps;
+    leads = leads;
+  };
+  are = inl refl;
 }
   where
     leads : Leads (Stands w) (Stands now) (does (ReadLine text) ∷ []) (lines_answered heard_is.answer)

@@ -1,8 +1,10 @@
 -- What a line took is saved.
-use Rattle.std.proofs.Common.{arith, ◌≡◌, ◌⊎◌, inl, inr, ℕ, zero, suc, ◌+◌, ◌<◌, List, [], ◌∷◌, ◌++◌, Bool, true, false, cond, Option, None, Some, Ok, refl, sym, ◌∙◌, ap, subst, append_assoc, append-nil, length, codes}
+use Rattle.std.proofs.Common.{arith, ◌≡◌, ◌⊎◌, inl, inr, ℕ, zero, suc, ◌+◌, ◌<◌, List, [], ◌∷◌, ◌++◌, Bool, true, false, cond, Option, None, Some, Result, Ok, Err, refl, sym, ◌∙◌, ap, subst, append_assoc, append-nil, length, codes}
 use Rattle.std.specs.Prelude.{filter, is_none, option_map, ◌==◌, ◌||◌, MatchBool}
 use Rattle.std.specs.List.{list_any}
+use Rattle.std.specs.Result.{IfErr, OnOk}
 use Rattle.std.proofs.lemmas.Bool.{false≢true}
+use Rattle.std.proofs.Math.Dec.{eqb-suc-zero}
 use Rattle.basics.specs.declared.stream.StreamId.{StreamId}
 use Rattle.basics.specs.Told.{told_more}
 use Rattle.outside.specs.Desk.{DeskSeen}
@@ -35,12 +37,13 @@ use Rattle.attempt_turns.specs.Acts.{Act, Going, InOrder, IsInOrder, IsShut, Pla
 use Rattle.attempt_turns.specs.Ends.{CanStop, Ends, EndsSo, SaidSo, TurnCause, is_again}
 use Rattle.attempt_turns.specs.Heard.{SaveEnds, SayEnds, SaysFront, SaysLines}
 use Rattle.attempt_turns.specs.History.{KeepsDesk, Ran}
-use Rattle.attempt_turns.specs.Worker.{HasCode, IsOn, Owes, Stands, is_error, source_held}
+use Rattle.attempt_turns.specs.Worker.{HasCode, IsOn, Live, Owes, Stands, is_error, source_held}
 use Rattle.attempt_turns.specs.declared.worker.Worker.{Worker}
 use Rattle.attempt_turns.proofs.Placed.{placed_on}
 use Rattle.attempt_turns.proofs.Lists.{any_one, got_over_one, same_gives, same_gots, same_reads}
-use Rattle.attempt_turns.proofs.EndLemmas.{desk_same, less_same, no_events, none_said, rightly}
+use Rattle.attempt_turns.proofs.EndLemmas.{coded, desk_same, less_same, no_events, none_said, rightly}
 use Rattle.attempt_turns.proofs.BackLemmas.{IsBack, on_back}
+use Rattle.attempt_turns.proofs.LiveLemmas.{live_saved}
 use Rattle.attempt_turns.proofs.PutLemmas.{PutsSo, can_take, puts_then, set_worker}
 
 saved_back : (text : List ℕ) → IsBack (Saved text)
@@ -54,7 +57,7 @@ not_begins called sync state positive owed = ap (λ b. b || is_none sync.owed) (
   where
     above : (n : ℕ) → 0 < n → (n == 0) ≡ false
     above zero less = absurd (omega (arith, less))
-    above (suc n) less = refl
+    above (suc n) less = eqb-suc-zero n
 
 -- what is owed, and the set that takes it
 pub record Puts (taken : StateMsg) (now : Set) (w : Worker) (call : Call) (streams : List ConfStream) (read : Reading) (here : Place) (said : List (List ℕ)) : Type 0 where
@@ -382,3 +385,19 @@ pub unsaid_cause : (end : Status) (line : List ℕ) (old new : Seen) (desk_old d
 unsaid_cause status.SayFault line old new desk_old desk_new is = is.rose
 unsaid_cause status.NoMemory line old new desk_old desk_new is = tt
 unsaid_cause end line old new desk_old desk_new is = absurd is
+
+-- ---- for the function
+
+pub said_saved : {T : Type 0} (result : Result T Status) (taken : StateMsg) (text line : List ℕ) (now : Set) (w : Worker) (old new : Seen) (desk_old desk_new : DeskSeen) → PutsInto taken w.set now → text ≡ store_text now → line ≡ saved_words taken → own_events new ≡ told_more (Saved text ∷ []) (own_events old) → Grew old new
+    → OnOk result (SaysLines (line ∷ []) desk_old desk_new) → OnOk result (Ran (Owes taken w) (Stands (set_worker w now)) old new desk_old desk_new)
+said_saved (Ok done) taken text line now w old new desk_old desk_new puts text_is line_is added grew says = saved_way taken text line now w old new desk_old desk_new puts text_is line_is added grew says
+said_saved (Err end) taken text line now w old new desk_old desk_new puts text_is line_is added grew says = tt
+
+pub unsaid_saved : {T : Type 0} (result : Result T Status) (taken : StateMsg) (text line : List ℕ) (now : Set) (w : Worker) (old new : Seen) (desk_old desk_new : DeskSeen) → PutsInto taken w.set now → text ≡ store_text now → line ≡ saved_words taken → Live w old → new.face ≡ old.face → own_events new ≡ told_more (Saved text ∷ []) (own_events old) → Grew old new
+    → IfErr result (λ end. SayEnds end line desk_old desk_new) → IfErr result (λ end. Ran (Owes taken w) (Ends end new.face (set_worker w now)) old new desk_old desk_new)
+unsaid_saved (Ok done) taken text line now w old new desk_old desk_new puts text_is line_is live face added grew says = tt
+unsaid_saved (Err end) taken text line now w old new desk_old desk_new puts text_is line_is live face added grew says = unsaid_ends end taken text line now w old new desk_old desk_new puts text_is line_is (coded w old new live (ap (λ (it : LinkFace). it.codes.source) face)) added grew says
+
+pub live_said : {T : Type 0} (result : Result T Status) (set : Set) (text : List ℕ) (w : Worker) (old new : Seen) → Live w old → new.face ≡ old.face → own_events new ≡ told_more (Saved text ∷ []) (own_events old) → OnOk result (Live (set_worker w set) new)
+live_said (Ok done) set text w old new live face added = live_saved w set text old new live face added
+live_said (Err end) set text w old new live face added = tt

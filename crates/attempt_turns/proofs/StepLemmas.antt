@@ -1,6 +1,7 @@
 -- What a step brings, and how many may still come.
 use Rattle.std.proofs.Common.{arith, ◌≡◌, inl, inr, ℕ, ◌+◌, ◌-◌, ◌*◌, ◌<◌, ◌≤◌, List, [], ◌∷◌, ◌++◌, Bool, true, false, cond, Option, None, Some, refl, sym, ◌∙◌, ap, subst, length}
 use Rattle.std.specs.Prelude.{option_to_list}
+use Rattle.std.specs.List.{list_any}
 use Rattle.basics.specs.declared.stream.StreamId.{StreamId}
 use Rattle.basics.specs.Told.{told_by, told_more}
 use Rattle.outside.specs.Desk.{DeskSeen}
@@ -24,44 +25,34 @@ use Rattle.sync_ledger.specs.declared.verdict.Verdict.{Verdict}
 use Rattle.sync_ledger.specs.declared.notes.TheConstants.{MOST_LINES}
 use Rattle.attempt_turns.specs.Heard.{HeardBack, HeardSource, HearsBack, HearsSource}
 use Rattle.attempt_turns.specs.History.{Ran}
-use Rattle.attempt_turns.specs.Silence.{Steps, left}
-use Rattle.attempt_turns.specs.Worker.{HasGot, IsReadable, Live, Stands}
+use Rattle.attempt_turns.specs.Acts.{events_in}
+use Rattle.attempt_turns.specs.Silence.{Steps, brings, left}
+use Rattle.attempt_turns.specs.Worker.{HasGot, IsReadable, Stands}
 use Rattle.attempt_turns.specs.declared.worker.Moved.TheVariants as moved
 use Rattle.attempt_turns.specs.declared.worker.Worker.{Worker}
-use Rattle.attempt_turns.proofs.Ways.{ran_then}
-use Rattle.attempt_turns.proofs.ReadLemmas.{reads_way}
-use Rattle.attempt_turns.proofs.EndLemmas.{stays_way}
-use Rattle.attempt_turns.proofs.EndOfOutput.{end_way, over_worker}
-use Rattle.attempt_turns.proofs.GiveLemmas.{gives_way}
+use Rattle.attempt_turns.proofs.Ways.{acts_then, ran_then}
+use Rattle.attempt_turns.proofs.EndOfOutput.{over_worker}
+use Rattle.attempt_turns.proofs.GiveLemmas.{gives_step}
 use Rattle.attempt_turns.proofs.BackLemmas.{polled_way}
-use Rattle.attempt_turns.proofs.BackEnds.{end_way_back}
 use Rattle.attempt_turns.proofs.LiveLemmas.{given_worker, got_over_worker}
 
 -- ---- what a step brings
 
-pub stays_step : (w : Worker) (old new : Seen) (desk : DeskSeen) → own_events new ≡ own_events old → Grew old new → Steps moved.No (Stands w) (Stands w) old new desk desk
-stays_step w old new desk same grew = record { ran = stays_way w old new desk same grew; are = refl }
+pub back_step : (w now : Worker) (text : List ℕ) (old mid new : Seen) (desk_old desk_new : DeskSeen) → w.got_over ≡ false → own_events mid ≡ told_more (Got text ∷ []) (own_events old) → Grew old mid → Ran (HasGot text w) (Stands now) mid new desk_old desk_new
+    → Steps moved.Yes (Stands w) (Stands now) old new desk_old desk_new
+back_step w now text old mid new desk_old desk_new going added grew then =
+    let polled = polled_way w text old mid desk_old going added grew in
+    record {
+      ran = ran_then (Stands w) (HasGot text w) (Stands now) old mid new desk_old desk_old desk_new polled.ran then;
+      are = inl (ap (λ acts. list_any brings (events_in acts)) (acts_then (Stands w) (HasGot text w) (Stands now) old mid new desk_old desk_old desk_new polled.ran then ∙ ap (λ acts. acts ++ then.acts) polled.are));
+    }
 
-pub reads_step : (w now : Worker) (text : List ℕ) (old new : Seen) (desk_old desk_new : DeskSeen) → IsReadable w → own_events new ≡ told_more (ReadLine text ∷ []) (own_events old) → Grew old new → HeardSource w text now desk_old desk_new → Steps moved.Yes (Stands w) (Stands now) old new desk_old desk_new
-reads_step w now text old new desk_old desk_new readable added grew heard_is = record { ran = reads_way w now text old new desk_old desk_new readable added grew heard_is; are = inl refl }
-
-pub end_step : (w : Worker) (old new : Seen) (desk : DeskSeen) → IsReadable w → Live w old → own_events new ≡ told_by (λ events. cond (read_over events) [] (ReadEnd ∷ [])) (own_events old) → Grew old new → Steps moved.Yes (Stands w) (Stands (over_worker w)) old new desk desk
-end_step w old new desk readable live added grew = record { ran = end_way w old new desk readable live added grew; are = inl refl }
-
-pub back_step : (w now : Worker) (text : List ℕ) (old mid new : Seen) (desk_old desk_new : DeskSeen) → w.got_over ≡ false → own_events mid ≡ told_more (Got text ∷ []) (own_events old) → Grew old mid → Ran (HasGot text w) (Stands now) mid new desk_old desk_new → Steps moved.Yes (Stands w) (Stands now) old new desk_old desk_new
-back_step w now text old mid new desk_old desk_new going added grew then = record {
-  ran = ran_then (Stands w) (HasGot text w) (Stands now) old mid new desk_old desk_old desk_new (polled_way w text old mid desk_old going added grew) then;
-  are = inl refl;
-}
-
-pub back_end_step : (w : Worker) (old new : Seen) (desk : DeskSeen) → w.got_over ≡ false → own_events new ≡ told_more (GotEnd ∷ []) (own_events old) → Grew old new → Steps moved.Yes (Stands w) (Stands (got_over_worker w)) old new desk desk
-back_end_step w old new desk going added grew = record { ran = end_way_back w old new desk going added grew; are = inl refl }
-
+-- where the function gives it
 pub given_step : (w : Worker) (ledger : Noted) (text line : List ℕ) (old new : Seen) (desk : DeskSeen) → ledger ≡ gave w.ledger → line ≡ text → w.held ≡ Some text → w.is_completing ≡ false → w.closed ≡ false → own_events new ≡ told_more (Given line ∷ []) (own_events old) → Grew old new
     → Steps moved.Yes (Stands w) (Stands (record w { ledger = ledger; held = None })) old new desk desk
 given_step w ledger text line old new desk gave_is same held own_line opened added grew =
     subst (λ it. Steps moved.Yes (Stands w) (Stands (record w { ledger = it; held = None })) old new desk desk) (sym gave_is)
-    (record { ran = gives_way w text old new desk held own_line opened (added ∙ ap (λ it. told_more (Given it ∷ []) (own_events old)) same) grew; are = inl refl })
+    (gives_step w text old new desk held own_line opened (added ∙ ap (λ it. told_more (Given it ∷ []) (own_events old)) same) grew)
 
 -- ---- the ledger behind a line
 

@@ -130,8 +130,10 @@ fn save_taken<K: Desk, L: Link>(
     let Ok(text) = write_store(alloc, &w.set) else {
         return Err(Status::NoMemory);
     };
-    save_text(link, store, &text)?;
-    say_line(desk, &line)
+    match save_text(link, store, &text) {
+        Ok(()) => say_line(desk, &line),
+        Err(end) => Err(end),
+    }
 }
 
 // A line that came back is heard; what it takes is saved, and what is to be said of it is said.

@@ -1,8 +1,10 @@
 use Rattle.std.proofs.Common.{◌∙◌, ◌+◌, ◌-◌, ◌^◌, min, ap}
 use Rattle.outside.specs.declared.link.LinkFace.{LinkFace}
-use Rattle.attempt_turns.proofs.EndLemmas.{coded, failed_way, lacked_way, line_cause, line_ends_way, too_long_way, unfinished_open}
+use Rattle.attempt_turns.proofs.ReadLemmas.{reads_step}
+use Rattle.attempt_turns.proofs.EndLemmas.{coded, failed_way, lacked_way, line_cause, line_ends_way, stays_step, too_long_way, unfinished_open}
+use Rattle.attempt_turns.proofs.EndOfOutput.{end_step}
 use Rattle.attempt_turns.proofs.LiveLemmas.{live_end, live_read, live_torn}
-use Rattle.attempt_turns.proofs.StepLemmas.{end_step, fewer_end, fewer_read, reads_step, stays_step}
+use Rattle.attempt_turns.proofs.StepLemmas.{fewer_end, fewer_read}
 use Rattle.attempt_turns.proofs.source.read_source.Goals as goal
 
 -- a line
@@ -36,13 +38,13 @@ pub returns-in-End-clause-live : goal.returns-in-End-clause-live
 returns-in-End-clause-live g c = live_end _ _ _ c.requires.readable c.requires.live c.in-End.ensures.face c.in-End.ensures.events
 
 pub returns-in-Failed-clause-err : goal.returns-in-Failed-clause-err
-returns-in-Failed-clause-err g c = failed_way _ _ _ _ (unfinished_open _ c.requires.readable.opened) (coded _ _ _ c.requires.live (ap (λ (it : LinkFace). it.codes.source) c.in-Failed.ensures.face)) c.in-Failed.ensures.events c.in-Failed.ensures.grew
+returns-in-Failed-clause-err g c = failed_way _ _ _ _ (unfinished_open c.args.w.now c.requires.readable.opened) (coded _ _ (g.L.Link.seen c.poll_source.new.self) c.requires.live (ap (λ (it : LinkFace). it.codes.source) c.in-Failed.ensures.face)) c.in-Failed.ensures.events c.in-Failed.ensures.grew
 
 pub returns-in-NoMemory-clause-err : goal.returns-in-NoMemory-clause-err
-returns-in-NoMemory-clause-err g c = lacked_way _ _ _ _ (coded _ _ _ c.requires.live (ap (λ (it : LinkFace). it.codes.source) c.in-NoMemory.ensures.face)) c.in-NoMemory.ensures.events c.in-NoMemory.ensures.grew
+returns-in-NoMemory-clause-err g c = lacked_way _ _ _ _ (coded _ _ (g.L.Link.seen c.poll_source.new.self) c.requires.live (ap (λ (it : LinkFace). it.codes.source) c.in-NoMemory.ensures.face)) c.in-NoMemory.ensures.events c.in-NoMemory.ensures.grew
 
 pub returns-in-TooLong-clause-err : goal.returns-in-TooLong-clause-err
-returns-in-TooLong-clause-err g c = too_long_way c.saturating_add.result c.args.w.now _ _ _ (coded _ _ _ c.requires.live (ap (λ (it : LinkFace). it.codes.source) c.in-TooLong.ensures.face)) (c.saturating_add.ensures ∙ ap (λ n. min (n + 1) (2 ^ 64 - 1)) c.lines.ensures) c.in-TooLong.ensures.events c.in-TooLong.ensures.grew (ap (λ (it : LinkFace). it.source_poll) c.in-TooLong.ensures.face)
+returns-in-TooLong-clause-err g c = too_long_way c.saturating_add.result c.args.w.now _ _ _ (coded _ _ (g.L.Link.seen c.poll_source.new.self) c.requires.live (ap (λ (it : LinkFace). it.codes.source) c.in-TooLong.ensures.face)) (c.saturating_add.ensures ∙ ap (λ n. min (n + 1) (2 ^ 64 - 1)) c.lines.ensures) c.in-TooLong.ensures.events c.in-TooLong.ensures.grew (ap (λ (it : LinkFace). it.source_poll) c.in-TooLong.ensures.face)
 
 -- causes
 pub returns-in-Err-clause-cause : goal.returns-in-Err-clause-cause
@@ -59,4 +61,4 @@ pub returns-in-Ok-take_read-clause-fewer : goal.returns-in-Ok-take_read-clause-f
 returns-in-Ok-take_read-clause-fewer g c = fewer_read _ _ _ _ _ c.requires.readable c.in-Ok-take_read.ensures.ok
 
 pub returns-in-End-clause-fewer : goal.returns-in-End-clause-fewer
-returns-in-End-clause-fewer g c = fewer_end _ c.requires.readable.going
+returns-in-End-clause-fewer g c = fewer_end c.args.w.now c.requires.readable.going
