@@ -26,13 +26,12 @@ use Rattle.airbyte_message.specs.declared.message.TraceMsg.TheVariants as trace
 use Rattle.catalog.specs.Reading.{ids_of}
 use Rattle.catalog.specs.declared.stream.ConfStream.{ConfStream}
 use Rattle.load_rules.specs.Lines.{Reading, lines_read, passes, state_in}
-use Rattle.load_rules.specs.Taken.{LaneState}
 use Rattle.load_rules.specs.Attempts.{gives, gots, passed, reads}
 use Rattle.load_rules.specs.Engine.{is_ended}
 use Rattle.load_rules.specs.Prefixes.{IsPrefix}
 use Rattle.sync_rules.specs.Calls.{Call, OwesNothing}
 use Rattle.sync_rules.specs.Breaches.{AreUnbroken}
-use Rattle.sync_rules.specs.Sync.{Running, Takes, and_event, texts, with_event}
+use Rattle.sync_rules.specs.Sync.{Running, and_event, texts, with_event}
 use Rattle.sync_rules.specs.Steps.{InAttempt}
 use Rattle.sync_rules.proofs.Taking.{lines_take}
 use Rattle.sync_ledger.specs.Judged.{IsEchoed, IsRefused, RefusesBack}
@@ -42,14 +41,12 @@ use Rattle.sync_ledger.specs.declared.said.Saying.{Saying}
 use Rattle.sync_ledger.specs.declared.said.Saying.TheVariants as saying
 use Rattle.sync_ledger.specs.declared.told.Told.{Told}
 use Rattle.sync_ledger.specs.declared.told.Told.TheVariants as told
-use Rattle.sync_ledger.specs.declared.verdict.Echoed.{Echoed}
 use Rattle.sync_ledger.specs.declared.verdict.Echoed.TheVariants as echoed
 use Rattle.sync_ledger.specs.declared.notes.TheConstants.{MOST_LINES}
-use Rattle.ledger_rules.specs.Ledgers.{taken_by}
 use Rattle.ledger_rules.proofs.Stands.{goes_on, refuses}
 use Rattle.attempt_turns.specs.Acts.{Place, does, lines_told, place_after}
-use Rattle.attempt_turns.specs.Ends.{CanStop, Ends, EndsSo, ErrsSo, RefusesBackLast, SaidSo, TurnCause, is_again}
-use Rattle.attempt_turns.specs.Heard.{BackEnds, HalfSaidBack, HearsBack, SaysLines, lines_echoed}
+use Rattle.attempt_turns.specs.Ends.{Ends, EndsSo, SaidSo, TurnCause, is_again}
+use Rattle.attempt_turns.specs.Heard.{BackEnds, HalfSaidBack, HearsBack, SaysLines}
 use Rattle.attempt_turns.specs.History.{Ran}
 use Rattle.attempt_turns.specs.Silence.{Steps}
 use Rattle.attempt_turns.specs.declared.worker.Moved.TheVariants as moved
@@ -58,8 +55,8 @@ use Rattle.attempt_turns.specs.declared.worker.Worker.{Worker}
 use Rattle.attempt_turns.proofs.Placed.{placed_on}
 use Rattle.attempt_turns.proofs.Lists.{any_one, each_one, got_over_one, gots_one, same_gives, same_gots, same_reads}
 use Rattle.attempt_turns.proofs.ReadLemmas.{answer_only}
-use Rattle.attempt_turns.proofs.EndLemmas.{clean, desk_same, ends_way, less_same, no_events, none_said, owes_nothing, rightly}
-use Rattle.attempt_turns.proofs.BackLemmas.{Came, Heard, IsBack, back_worker, came, echoed_told, got_place, heard_lines, heard_so, no_state, on_back, owes_none}
+use Rattle.attempt_turns.proofs.EndLemmas.{clean, desk_same, ends_way, less_same, no_events, none_said, rightly}
+use Rattle.attempt_turns.proofs.BackLemmas.{Came, IsBack, came, echoed_told, got_place, heard_lines, heard_so, no_state, on_back, owes_none}
 use Rattle.attempt_turns.proofs.LiveLemmas.{got_over_worker}
 use Rattle.attempt_turns.proofs.Ways.{grew_none}
 
@@ -119,18 +116,18 @@ lacked_back w now text seen desk_old desk_new number says code = record {
   grew = grew_none seen;
   desk = says.keeps;
   leads = λ call streams read here said reading has.
-    let own = came text w call streams read here said has in (
-      here,
-      refl,
-      ends_got status.NoMemory seen.face text w now call streams read here said [] own (record {
-        kept = refl;
-        number = number;
-        code = code;
-        so = tt;
-        paid = tt;
-        said_so = (lines_told (echoed_told read text), ap (λ list. list ++ lines_told (echoed_told read text)) (own.stood.said_all ∙ sym (append-nil said)));
-      }),
-    );
+      let own = came text w call streams read here said has in (
+        here,
+        refl,
+        ends_got status.NoMemory seen.face text w now call streams read here said [] own (record {
+          kept = refl;
+          number = number;
+          code = code;
+          so = tt;
+          paid = tt;
+          said_so = (lines_told (echoed_told read text), ap (λ list. list ++ lines_told (echoed_told read text)) (own.stood.said_all ∙ sym (append-nil said)));
+        }),
+      );
 }
 
 -- it was heard, and a part of what is to be said of it was said
@@ -143,18 +140,18 @@ half_said_back w now text seen desk_old desk_new half code = record {
   grew = grew_none seen;
   desk = half.said.keeps;
   leads = λ call streams read here said reading has.
-    let heard = heard_so text half.answer w now call streams read here said half.heard has in (
-      here,
-      refl,
-      ends_got status.SayFault seen.face text w now call streams read here said half.said.front.front heard.came_so (record {
-        kept = refl;
-        number = ap (λ (it : Worker). it.number) half.heard.is;
-        code = code;
-        so = tt;
-        paid = owes_none text half.answer w now call streams read here said heard half.none_taken;
-        said_so = (half.said.front.rest, heard_lines text half.answer w now call streams read here said heard ∙ (ap (λ list. said ++ list) half.said.front.splits ∙ sym (append_assoc said half.said.front.front half.said.front.rest)));
-      }),
-    );
+      let heard = heard_so text half.answer w now call streams read here said half.heard has in (
+        here,
+        refl,
+        ends_got status.SayFault seen.face text w now call streams read here said half.said.front.front heard.came_so (record {
+          kept = refl;
+          number = ap (λ (it : Worker). it.number) half.heard.is;
+          code = code;
+          so = tt;
+          paid = owes_none text half.answer w now call streams read here said heard half.none_taken;
+          said_so = (half.said.front.rest, heard_lines text half.answer w now call streams read here said heard ∙ (ap (λ list. said ++ list) half.said.front.splits ∙ sym (append_assoc said half.said.front.front half.said.front.rest)));
+        }),
+      );
 }
 
 -- ---- the line says that a configuration is wrong
@@ -198,32 +195,32 @@ error_way_back w now text words line seen desk_old desk_new hears number says co
   grew = grew_none seen;
   desk = says.keeps;
   leads = λ call streams read here said reading has.
-    let heard = heard_so text (echoed.ConfigError words) w now call streams read here said hears has in
-    let own = heard.came_so.stood.attempt in
-    let on = heard.came_so.stood.on in (
-      here,
-      refl,
-      ends_got (status.ConfigError side.Dest line) seen.face text w now call streams read here said (words ∷ []) heard.came_so (record {
-        kept = refl;
-        number = ap (λ (it : Worker). it.number) hears.is;
-        code = code;
-        so = record {
-          last = record {
-            front = gots own.events;
-            text = text;
-            last = gots_one own.events (Got text);
-            is = error_back w.ledger now.ledger (echoed_told read text) words heard.echoed_so;
-            no_error = on.none_ends.no_error_back;
-            number = number ∙ (ap (λ (it : Worker). it.got_lines) hears.is ∙ got_number w own.events text on.got_lines);
+      let heard = heard_so text (echoed.ConfigError words) w now call streams read here said hears has in
+      let own = heard.came_so.stood.attempt in
+      let on = heard.came_so.stood.on in (
+        here,
+        refl,
+        ends_got (status.ConfigError side.Dest line) seen.face text w now call streams read here said (words ∷ []) heard.came_so (record {
+          kept = refl;
+          number = ap (λ (it : Worker). it.number) hears.is;
+          code = code;
+          so = record {
+            last = record {
+              front = gots own.events;
+              text = text;
+              last = gots_one own.events (Got text);
+              is = error_back w.ledger now.ledger (echoed_told read text) words heard.echoed_so;
+              no_error = on.none_ends.no_error_back;
+              number = number ∙ (ap (λ (it : Worker). it.got_lines) hears.is ∙ got_number w own.events text on.got_lines);
+            };
+            other = no_source_error w streams read own text on;
+            unbroken = unbroken_got w streams read own text on;
+            come_back = each_one (ComesBack read) [] own.events (Got text) on.none_ends.come_back (inl (error_comes w.ledger now.ledger read text words heard.echoed_so));
           };
-          other = no_source_error w streams read own text on;
-          unbroken = unbroken_got w streams read own text on;
-          come_back = each_one (ComesBack read) [] own.events (Got text) on.none_ends.come_back (inl (error_comes w.ledger now.ledger read text words heard.echoed_so));
-        };
-        paid = owes_none text (echoed.ConfigError words) w now call streams read here said heard refl;
-        said_so = heard_lines text (echoed.ConfigError words) w now call streams read here said heard;
-      }),
-    );
+          paid = owes_none text (echoed.ConfigError words) w now call streams read here said heard refl;
+          said_so = heard_lines text (echoed.ConfigError words) w now call streams read here said heard;
+        }),
+      );
 }
 
 -- ---- the line is refused

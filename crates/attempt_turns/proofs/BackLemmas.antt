@@ -1,16 +1,15 @@
 -- A line comes back and is heard.
-use Rattle.std.proofs.Common.{arith, ◌≡◌, ◌⊎◌, inl, inr, ℕ, ◌+◌, ◌<◌, ◌≤◌, List, [], ◌∷◌, ◌++◌, Bool, true, false, cond, Option, None, Some, Result, Ok, Err, refl, sym, ◌∙◌, ap, subst, append_assoc, append-nil, length, length-append}
+use Rattle.std.proofs.Common.{◌≡◌, inl, inr, ℕ, ◌+◌, ◌<◌, ◌≤◌, List, [], ◌∷◌, ◌++◌, Bool, false, cond, Option, None, Some, Result, Ok, Err, refl, sym, ◌∙◌, ap, subst, append_assoc, append-nil, length, length-append}
 use Rattle.std.specs.Prelude.{drop, filter, is_none, map, option_map, option_to_list}
 use Rattle.std.specs.List.{list_any}
 use Rattle.std.specs.Result.{IfErr, OnOk}
-use Rattle.std.proofs.lemmas.Bool.{false≢true}
 use Rattle.basics.specs.declared.stream.StreamId.{StreamId}
 use Rattle.basics.specs.Told.{told_more}
 use Rattle.outside.specs.Desk.{DeskSeen}
-use Rattle.outside.specs.Event.{got_in, given_in, got_over, read_in, read_over, read_over_after}
+use Rattle.outside.specs.Event.{given_in, got_over, read_in, read_over, read_over_after}
 use Rattle.outside.specs.Link.{Seen, Grew, own_events}
 use Rattle.outside.specs.declared.event.Event.{Event}
-use Rattle.outside.specs.declared.event.Event.TheVariants.{Closed, Got, GotEnd}
+use Rattle.outside.specs.declared.event.Event.TheVariants.{Closed, Got}
 use Rattle.outside.specs.declared.faults.Side.TheVariants as side
 use Rattle.outside.specs.declared.status.Status.{Status}
 use Rattle.airbyte_message.specs.Messages.{IsMessage}
@@ -20,7 +19,6 @@ use Rattle.airbyte_message.specs.declared.message.Message.TheVariants as message
 use Rattle.catalog.specs.Reading.{ids_of}
 use Rattle.catalog.specs.declared.stream.ConfStream.{ConfStream}
 use Rattle.dedup_merge.proofs.SameRowLemmas.{Has, has_to}
-use Rattle.load_rules.specs.Prefixes.{EachFits}
 use Rattle.load_rules.specs.Lines.{Reading, ReadsEvent, ReadsText, lines_read, passes, state_in}
 use Rattle.load_rules.specs.Taken.{LaneState, states}
 use Rattle.load_rules.specs.Finished.{last_status}
@@ -30,9 +28,8 @@ use Rattle.state_kinds.specs.Saved.{Saved}
 use Rattle.state_kinds.specs.Changes.{put_into}
 use Rattle.sync_rules.specs.Calls.{Call}
 use Rattle.sync_rules.specs.Generations.{generations_in}
-use Rattle.sync_rules.specs.SafeSync.{nothing, IsAsked}
-use Rattle.sync_rules.specs.Steps.{Gets, InAttempt, Step}
-use Rattle.sync_rules.specs.Sync.{Running, Sync, Takes, and_event, completion, got, texts, to_give, untold}
+use Rattle.sync_rules.specs.Steps.{Gets, InAttempt}
+use Rattle.sync_rules.specs.Sync.{Running, Takes, and_event, completion, got, texts, to_give, untold}
 use Rattle.sync_rules.proofs.KindLemmas.{some_is, some_none}
 use Rattle.sync_rules.proofs.Taking.{lines_take}
 use Rattle.sync_ledger.specs.Judged.{Echoes, IsEchoed}
@@ -47,15 +44,15 @@ use Rattle.sync_ledger.specs.declared.verdict.Echoed.TheVariants as echoed
 use Rattle.sync_ledger.specs.declared.notes.TheConstants.{MOST_LINES}
 use Rattle.ledger_rules.specs.Ledgers.{IsLedgerOf, state_taken, taken_by}
 use Rattle.ledger_rules.proofs.Stands.{gets, takes}
-use Rattle.attempt_turns.specs.Acts.{Place, does, lines_of, lines_saying, lines_told, place_after}
+use Rattle.attempt_turns.specs.Acts.{Place, does, lines_saying, lines_told, place_after}
 use Rattle.attempt_turns.specs.Ends.{Ends}
 use Rattle.attempt_turns.specs.Heard.{GoesOnBack, HeardBack, HearsBack, lines_echoed}
 use Rattle.attempt_turns.specs.History.{Ran, RanSo}
 use Rattle.attempt_turns.specs.Placed.{ArePlaced}
-use Rattle.attempt_turns.specs.Worker.{ClosedBehind, ComesBack, HasGot, IsOn, Owes, SetFits, Stands, is_error, is_error_saying, is_error_told, left_to_give, source_held, untold_from}
+use Rattle.attempt_turns.specs.Worker.{ClosedBehind, ComesBack, HasGot, IsOn, Owes, SetFits, Stands, is_error, is_error_saying, is_error_told, left_to_give, source_held}
 use Rattle.attempt_turns.specs.declared.worker.Worker.{Worker}
 use Rattle.attempt_turns.proofs.Placed.{placed_got}
-use Rattle.attempt_turns.proofs.Lists.{any_one, each_one, got_over_one, gots_one, read_over_one, reading_one, same_gives, same_gots, same_reads}
+use Rattle.attempt_turns.proofs.Lists.{any_one, each_one, got_over_one, gots_one, read_over_one, reading_one, same_gives, same_reads}
 use Rattle.attempt_turns.proofs.ReadLemmas.{answer_only}
 use Rattle.attempt_turns.proofs.EndLemmas.{desk_same, no_events, none_said}
 use Rattle.attempt_turns.proofs.Ways.{grew_none, ran_then}
@@ -185,25 +182,25 @@ polled_way w text old new desk going added grew = record {
     grew = grew;
     desk = desk_same desk;
     leads = λ call streams read here said reading stands.
-      let owed = lines_take.some read stands.attempt.events text in
-      let steps = may_get call streams read here said owed.0 stands owed.1 in (
-        got_place read here text owed.0,
-        (
-          got text owed.0 here.standing.sync,
-          steps,
-          subst (λ (n : ℕ). 0 < n) (sym stands.is_last.number) stands.is_last.positive,
-          record { works = stands.is_last.works; order = stands.is_last.number ∙ sym stands.is_last.ended },
-          refl,
-        ),
-        subst (λ list. HasGot text w call streams read (got_place read here text owed.0) list) (sym (append-nil said)) (record {
-          before = here;
-          stood = stands;
-          now = got text owed.0 here.standing.sync;
-          steps = steps;
-          reads = reading.0;
-          is = refl;
-        }),
-      );
+        let owed = lines_take.some read stands.attempt.events text in
+        let steps = may_get call streams read here said owed.0 stands owed.1 in (
+          got_place read here text owed.0,
+          (
+            got text owed.0 here.standing.sync,
+            steps,
+            subst (λ (n : ℕ). 0 < n) (sym stands.is_last.number) stands.is_last.positive,
+            record { works = stands.is_last.works; order = stands.is_last.number ∙ sym stands.is_last.ended },
+            refl,
+          ),
+          subst (λ list. HasGot text w call streams read (got_place read here text owed.0) list) (sym (append-nil said)) (record {
+            before = here;
+            stood = stands;
+            now = got text owed.0 here.standing.sync;
+            steps = steps;
+            reads = reading.0;
+            is = refl;
+          }),
+        );
   };
   are = refl;
 }

@@ -1,19 +1,16 @@
 -- The source's output ends.
-use Rattle.std.proofs.Common.{◌≡◌, ◌⊎◌, inl, inr, ℕ, ◌<◌, ◌≤◌, List, [], ◌∷◌, ◌++◌, Bool, true, false, cond, Option, None, Some, IfSome, IsTrue, refl, sym, ◌∙◌, ap, subst, append-nil, length}
+use Rattle.std.proofs.Common.{◌≡◌, inl, ℕ, ◌<◌, ◌≤◌, List, [], ◌∷◌, ◌++◌, Bool, true, false, cond, Option, None, Some, IfSome, refl, sym, ◌∙◌, ap, subst, append-nil, length}
 use Rattle.std.specs.Prelude.{filter, map, option_map, option_to_list}
 use Rattle.std.specs.List.{list_any}
 use Rattle.std.proofs.lemmas.Bool.{false≢true}
 use Rattle.basics.specs.declared.stream.StreamId.{StreamId}
 use Rattle.basics.specs.Told.{told_by, told_more}
 use Rattle.outside.specs.Desk.{DeskSeen}
-use Rattle.outside.specs.Event.{read_over, read_over_after, got_over, got_over_after}
+use Rattle.outside.specs.Event.{read_over}
 use Rattle.outside.specs.Link.{Seen, Grew, own_events}
 use Rattle.outside.specs.declared.event.Event.{Event}
-use Rattle.outside.specs.declared.event.Event.TheVariants.{ReadEnd, ReadLine}
+use Rattle.outside.specs.declared.event.Event.TheVariants.{ReadEnd}
 use Rattle.outside.specs.declared.faults.Side.TheVariants as side
-use Rattle.outside.specs.declared.link.LinkFace.{LinkFace}
-use Rattle.outside.specs.declared.link.PollKind.{PollKind}
-use Rattle.outside.specs.declared.link.PollKind.TheVariants as kind
 use Rattle.catalog.specs.Reading.{ids_of}
 use Rattle.catalog.specs.declared.stream.ConfStream.{ConfStream}
 use Rattle.load_rules.specs.Lines.{Reading, lines_read, passes}
@@ -23,10 +20,8 @@ use Rattle.sync_rules.specs.Sync.{Running, and_event, completion, texts, to_give
 use Rattle.sync_ledger.specs.declared.notes.TheConstants.{MOST_LINES}
 use Rattle.ledger_rules.proofs.Stands.{goes_on}
 use Rattle.attempt_turns.specs.Acts.{does, place_after}
-use Rattle.attempt_turns.specs.History.{Ran}
 use Rattle.attempt_turns.specs.Silence.{Steps}
 use Rattle.attempt_turns.specs.declared.worker.Moved.TheVariants as moved
-use Rattle.attempt_turns.specs.Heard.{HeardSource}
 use Rattle.attempt_turns.specs.Worker.{ComesBack, IsOn, IsReadable, Live, Stands, is_error, left_to_give, source_held, untold_from}
 use Rattle.attempt_turns.specs.declared.worker.Worker.{Worker}
 use Rattle.attempt_turns.proofs.Placed.{placed_on}

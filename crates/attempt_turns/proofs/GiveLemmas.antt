@@ -1,12 +1,12 @@
 -- A line of the source is given.
-use Rattle.std.proofs.Common.{arith, ◌≡◌, ◌⊎◌, inl, inr, ℕ, zero, suc, ◌<◌, ◌≤◌, List, [], ◌∷◌, ◌++◌, false, cond, Option, None, Some, IfSome, IsTrue, refl, sym, ◌∙◌, ap, subst, append-nil, length}
+use Rattle.std.proofs.Common.{◌≡◌, inl, ℕ, ◌<◌, ◌≤◌, List, [], ◌∷◌, ◌++◌, false, cond, Option, None, Some, refl, sym, ◌∙◌, ap, subst, append-nil, length}
 use Rattle.std.specs.Prelude.{filter, map, option_map, option_to_list, is_none, drop}
 use Rattle.std.specs.List.{list_any}
 use Rattle.std.proofs.lemmas.Bool.{false≢true}
 use Rattle.basics.specs.declared.stream.StreamId.{StreamId}
 use Rattle.basics.specs.Told.{told_more}
 use Rattle.outside.specs.Desk.{DeskSeen}
-use Rattle.outside.specs.Event.{read_over, got_over}
+use Rattle.outside.specs.Event.{read_over}
 use Rattle.outside.specs.Link.{Seen, Grew, own_events}
 use Rattle.outside.specs.declared.event.Event.TheVariants.{Given}
 use Rattle.outside.specs.declared.faults.Side.TheVariants as side
@@ -18,18 +18,14 @@ use Rattle.load_rules.specs.Attempts.{gives, passed, reads}
 use Rattle.load_rules.specs.Engine.{is_closed, is_ended}
 use Rattle.sync_rules.specs.Sync.{Running, and_event, completion, texts, to_give, untold, with_event}
 use Rattle.sync_rules.specs.Steps.{GivesNext, InAttempt}
-use Rattle.sync_ledger.specs.Noted.{Noted, gave}
+use Rattle.sync_ledger.specs.Noted.{gave}
 use Rattle.sync_ledger.specs.declared.notes.TheConstants.{MOST_LINES}
 use Rattle.ledger_rules.specs.Ledgers.{IsLedgerOf}
 use Rattle.ledger_rules.proofs.Stands.{gives as ledger_gives}
-use Rattle.outside.specs.declared.event.Exit.TheVariants.{Code}
 use Rattle.outside.specs.declared.link.LinkFace.{LinkFace}
-use Rattle.outside.specs.declared.status.Status.{Status}
 use Rattle.outside.specs.declared.status.Status.TheVariants as status
-use Rattle.load_rules.specs.Prefixes.{IsPrefix}
-use Rattle.sync_rules.specs.Calls.{Call}
-use Rattle.attempt_turns.specs.Acts.{Place, does, place_after}
-use Rattle.attempt_turns.specs.Ends.{CanStop, Ends, EndsSo}
+use Rattle.attempt_turns.specs.Acts.{does, place_after}
+use Rattle.attempt_turns.specs.Ends.{Ends}
 use Rattle.attempt_turns.specs.History.{Ran}
 use Rattle.attempt_turns.specs.Silence.{Steps}
 use Rattle.attempt_turns.specs.declared.worker.Moved.TheVariants as moved

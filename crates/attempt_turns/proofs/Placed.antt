@@ -1,16 +1,15 @@
 -- What is pending in a ledger keeps its place among the lines of the source.
-use Rattle.std.proofs.Common.{arith, ◌≡◌, ◌⊎◌, inl, inr, ℕ, zero, suc, ◌+◌, ◌<◌, ◌≤◌, List, [], ◌∷◌, ◌++◌, Bool, true, false, cond, Option, None, Some, refl, sym, ◌∙◌, ap, subst, append-nil, append_assoc, length, length-append, take, filter, map}
+use Rattle.std.proofs.Common.{arith, ◌≡◌, inl, inr, ℕ, zero, suc, ◌+◌, ◌<◌, ◌≤◌, List, [], ◌∷◌, ◌++◌, Bool, true, false, cond, Option, None, Some, refl, sym, ◌∙◌, ap, subst, append-nil, append_assoc, length, length-append, take, filter}
 use Rattle.std.specs.Prelude.{slice_get, option_map, is_some, filter_map}
 use Rattle.std.specs.List.{AllByRecursion}
 use Rattle.std.proofs.lemmas.Bool.{false≢true}
-use Rattle.std.proofs.lemmas.List.{length-map, map-append, take-append-le}
-use Rattle.std.proofs.lemmas.List.Elements.{filter-append}
+use Rattle.std.proofs.lemmas.List.{length-map, take-append-le}
 use Rattle.basics.specs.declared.stream.StreamId.{StreamId}
-use Rattle.outside.specs.Event.{given_in, got_in, read_in}
+use Rattle.outside.specs.Event.{given_in, read_in}
 use Rattle.outside.specs.declared.event.Event.{Event}
 use Rattle.outside.specs.declared.event.Event.TheVariants as event
 use Rattle.outside.specs.declared.faults.Side.TheVariants as side
-use Rattle.airbyte_message.specs.Lanes.{Lane, one, all, lane_of}
+use Rattle.airbyte_message.specs.Lanes.{Lane, all, lane_of}
 use Rattle.airbyte_message.specs.State.{State}
 use Rattle.airbyte_message.specs.declared.message.Message.{Message}
 use Rattle.airbyte_message.specs.declared.message.Message.TheVariants as message
@@ -32,9 +31,7 @@ use Rattle.sync_ledger.specs.PendingLists.{of_lane as pending_of_lane}
 use Rattle.sync_ledger.specs.Told.{told_of}
 use Rattle.sync_ledger.specs.declared.accounts.Account.{Account}
 use Rattle.sync_ledger.specs.declared.accounts.LaneAccount.{LaneAccount}
-use Rattle.sync_ledger.specs.declared.form.StateForm.{StateForm}
 use Rattle.sync_ledger.specs.declared.pending.Pending.{Pending}
-use Rattle.sync_ledger.specs.declared.said.Saying.{Saying}
 use Rattle.sync_ledger.specs.declared.told.Told.{Told}
 use Rattle.sync_ledger.specs.declared.told.Told.TheVariants as told
 use Rattle.sync_ledger.specs.declared.verdict.Echoed.{Echoed}

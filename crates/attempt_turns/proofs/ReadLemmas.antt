@@ -48,7 +48,7 @@ use Rattle.ledger_rules.specs.Ledgers.{IsLedgerOf, held_by, is_give, told_read}
 use Rattle.ledger_rules.proofs.Judges.{err_ok, ok_is, passes_on, short_told}
 use Rattle.ledger_rules.proofs.Stands.{reads_on}
 use Rattle.attempt_turns.specs.Acts.{Going, does, Place, is_refused, lines_of, lines_told, lines_saying, place_after, reads_in}
-use Rattle.attempt_turns.specs.History.{Leads, Ran}
+use Rattle.attempt_turns.specs.History.{Leads}
 use Rattle.attempt_turns.specs.Silence.{Steps}
 use Rattle.attempt_turns.specs.declared.worker.Moved.TheVariants as moved
 use Rattle.attempt_turns.specs.Heard.{GoesOn, HeardSource, lines_answered}

@@ -1,5 +1,5 @@
 -- What a line took is saved.
-use Rattle.std.proofs.Common.{arith, ◌≡◌, ◌⊎◌, inl, inr, ℕ, zero, suc, ◌+◌, ◌<◌, List, [], ◌∷◌, ◌++◌, Bool, true, false, cond, Option, None, Some, Result, Ok, Err, refl, sym, ◌∙◌, ap, subst, append_assoc, append-nil, length, codes}
+use Rattle.std.proofs.Common.{arith, ◌≡◌, ◌⊎◌, inl, inr, ℕ, zero, suc, ◌+◌, ◌<◌, List, [], ◌∷◌, ◌++◌, true, false, cond, None, Some, Result, Ok, Err, refl, sym, ◌∙◌, ap, subst, append_assoc, append-nil, length, codes}
 use Rattle.std.specs.Prelude.{filter, is_none, option_map, ◌==◌, ◌||◌, MatchBool}
 use Rattle.std.specs.List.{list_any}
 use Rattle.std.specs.Result.{IfErr, OnOk}
@@ -18,24 +18,24 @@ use Rattle.outside.specs.declared.status.Status.TheVariants as status
 use Rattle.airbyte_message.specs.State.{State as StateMsg}
 use Rattle.catalog.specs.Reading.{ids_of}
 use Rattle.catalog.specs.declared.stream.ConfStream.{ConfStream}
-use Rattle.dedup_merge.proofs.SameRowLemmas.{Has, has_from}
+use Rattle.dedup_merge.proofs.SameRowLemmas.{has_from}
 use Rattle.load_rules.specs.Prefixes.{IsPrefix}
 use Rattle.load_rules.specs.Lines.{Reading, lines_read, passes}
 use Rattle.load_rules.specs.Taken.{LaneState, states}
-use Rattle.load_rules.specs.Attempts.{gives, gots, passed, reads}
+use Rattle.load_rules.specs.Attempts.{gives, passed}
 use Rattle.load_rules.specs.Engine.{is_ended}
 use Rattle.state_kinds.specs.Saved.{Saved as Set}
 use Rattle.state_kinds.specs.Changes.{put_into}
 use Rattle.state_kinds.specs.Texts.{store_text}
-use Rattle.sync_rules.specs.Calls.{Call, Called, CallStep, OwesNothing, SavesRightly, Standing, begins_next, called_after, standing_after}
+use Rattle.sync_rules.specs.Calls.{Call, Called, CallStep, OwesNothing, SavesRightly, begins_next, called_after}
 use Rattle.sync_rules.specs.Generations.{generations_in}
 use Rattle.sync_rules.specs.SafeSync.{nothing, IsAsked}
-use Rattle.sync_rules.specs.Steps.{Saves, Step}
+use Rattle.sync_rules.specs.Steps.{Step}
 use Rattle.sync_rules.specs.Sync.{Running, Sync, and_event, saved, texts}
 use Rattle.ledger_rules.proofs.Stands.{goes_on}
-use Rattle.attempt_turns.specs.Acts.{Act, Going, InOrder, IsInOrder, IsShut, Place, does, fails, lines_of, lines_saved, place_after, place_failed}
-use Rattle.attempt_turns.specs.Ends.{CanStop, Ends, EndsSo, SaidSo, TurnCause, is_again}
-use Rattle.attempt_turns.specs.Heard.{SaveEnds, SayEnds, SaysFront, SaysLines}
+use Rattle.attempt_turns.specs.Acts.{Going, InOrder, IsShut, Place, does, fails, lines_of, lines_saved, place_after, place_failed}
+use Rattle.attempt_turns.specs.Ends.{Ends, EndsSo, SaidSo, TurnCause, is_again}
+use Rattle.attempt_turns.specs.Heard.{SaveEnds, SayEnds, SaysLines}
 use Rattle.attempt_turns.specs.History.{KeepsDesk, Ran}
 use Rattle.attempt_turns.specs.Worker.{HasCode, IsOn, Live, Owes, Stands, is_error, source_held}
 use Rattle.attempt_turns.specs.declared.worker.Worker.{Worker}
@@ -195,11 +195,11 @@ saved_way taken text line now w old new desk_old desk_new puts text_is line_is a
   grew = grew;
   desk = says.keeps;
   leads = λ call streams read here said reading owes.
-    let so = puts_owed taken now w call streams read here said puts owes in (
-      saved_place read here now,
-      going_saved taken now w call streams read here said so,
-      stands_saved taken now w call streams read here said so,
-    );
+      let so = puts_owed taken now w call streams read here said puts owes in (
+        saved_place read here now,
+        going_saved taken now w call streams read here said so,
+        stands_saved taken now w call streams read here said so,
+      );
 }
 
 -- ---- the attempt ends
@@ -291,33 +291,33 @@ fault_saved taken text now w old new desk puts text_is code added grew = record 
   grew = grew;
   desk = desk_same desk;
   leads = λ call streams read here said reading owes.
-    let so = puts_owed taken now w call streams read here said puts owes in
-    let same = same_called taken now w call streams read here said so in (
-      place_failed here (Saved (store_text now)) (saved_sync here.standing.sync now),
-      (
-        saved_sync here.standing.sync now,
-        step_saved taken now w call streams read here said so,
-        rightly_saved taken now w call streams read here said so,
-        order_saved taken now w call streams read here said so,
-        tt,
-        refl,
-      ),
-      ends_owed status.StateFault new.face w (set_worker w now) call streams read (place_failed here (Saved (store_text now)) (saved_sync here.standing.sync now)) (said ++ []) (record {
-        kept = refl;
-        so = λ own. tt;
-        begun = ap (λ (it : Called). it.begun) same ∙ owes.is_last.begun;
-        number = ap (λ (it : Called). it.number) same ∙ owes.is_last.number;
-        ended = owes.is_last.ended;
-        same = refl;
-        failed = λ failed. refl;
-        attempt = and_event (Saved (store_text now)) owes.attempt;
-        runs = ap (option_map (and_event (Saved (store_text now)))) owes.runs;
-        going = any_one is_ended owes.attempt.events (Saved (store_text now)) refl ∙ owes.on.going;
-        rightly_given = saved_rightly w streams read new.face owes.attempt (store_text now) code owes.on;
-        paid = tt;
-        said_so = owes.said_all ∙ sym (append-nil said);
-      }),
-    );
+      let so = puts_owed taken now w call streams read here said puts owes in
+      let same = same_called taken now w call streams read here said so in (
+        place_failed here (Saved (store_text now)) (saved_sync here.standing.sync now),
+        (
+          saved_sync here.standing.sync now,
+          step_saved taken now w call streams read here said so,
+          rightly_saved taken now w call streams read here said so,
+          order_saved taken now w call streams read here said so,
+          tt,
+          refl,
+        ),
+        ends_owed status.StateFault new.face w (set_worker w now) call streams read (place_failed here (Saved (store_text now)) (saved_sync here.standing.sync now)) (said ++ []) (record {
+          kept = refl;
+          so = λ own. tt;
+          begun = ap (λ (it : Called). it.begun) same ∙ owes.is_last.begun;
+          number = ap (λ (it : Called). it.number) same ∙ owes.is_last.number;
+          ended = owes.is_last.ended;
+          same = refl;
+          failed = λ failed. refl;
+          attempt = and_event (Saved (store_text now)) owes.attempt;
+          runs = ap (option_map (and_event (Saved (store_text now)))) owes.runs;
+          going = any_one is_ended owes.attempt.events (Saved (store_text now)) refl ∙ owes.on.going;
+          rightly_given = saved_rightly w streams read new.face owes.attempt (store_text now) code owes.on;
+          paid = tt;
+          said_so = owes.said_all ∙ sym (append-nil said);
+        }),
+      );
 }
 
 -- all ends of a save
@@ -347,27 +347,27 @@ unsaid_way end taken text front now w old new desk_old desk_new kept so paid sai
   grew = grew;
   desk = keeps;
   leads = λ call streams read here said reading owes.
-    let own = puts_owed taken now w call streams read here said puts owes in
-    let same = same_called taken now w call streams read here said own in (
-      saved_place read here now,
-      going_saved taken now w call streams read here said own,
-      ends_owed end new.face w (set_worker w now) call streams read (saved_place read here now) (said ++ front) (record {
-        kept = kept;
-        so = λ it. so (ids_of streams) read it;
-        begun = ap (λ (it : Called). it.begun) same ∙ owes.is_last.begun;
-        number = ap (λ (it : Called). it.number) same ∙ owes.is_last.number;
-        ended = owes.is_last.ended;
-        same = refl;
-        failed = λ failed. absurd (false≢true (sym owes.is_last.works ∙ failed));
-        attempt = and_event (Saved (store_text now)) owes.attempt;
-        runs = ap (option_map (and_event (Saved (store_text now)))) owes.runs;
-        going = any_one is_ended owes.attempt.events (Saved (store_text now)) refl ∙ owes.on.going;
-        rightly_given = saved_rightly w streams read new.face owes.attempt (store_text now) code owes.on;
-        paid = paid (saved_sync here.standing.sync now) refl;
-        said_so = said_so (saved_place read here now).asked (said ++ front)
-            (prefix.0, saved_asks taken now w call streams read here said own ∙ (ap (λ list. said ++ list) prefix.1 ∙ sym (append_assoc said front prefix.0)));
-      }),
-    );
+      let own = puts_owed taken now w call streams read here said puts owes in
+      let same = same_called taken now w call streams read here said own in (
+        saved_place read here now,
+        going_saved taken now w call streams read here said own,
+        ends_owed end new.face w (set_worker w now) call streams read (saved_place read here now) (said ++ front) (record {
+          kept = kept;
+          so = λ it. so (ids_of streams) read it;
+          begun = ap (λ (it : Called). it.begun) same ∙ owes.is_last.begun;
+          number = ap (λ (it : Called). it.number) same ∙ owes.is_last.number;
+          ended = owes.is_last.ended;
+          same = refl;
+          failed = λ failed. absurd (false≢true (sym owes.is_last.works ∙ failed));
+          attempt = and_event (Saved (store_text now)) owes.attempt;
+          runs = ap (option_map (and_event (Saved (store_text now)))) owes.runs;
+          going = any_one is_ended owes.attempt.events (Saved (store_text now)) refl ∙ owes.on.going;
+          rightly_given = saved_rightly w streams read new.face owes.attempt (store_text now) code owes.on;
+          paid = paid (saved_sync here.standing.sync now) refl;
+          said_so = said_so (saved_place read here now).asked (said ++ front)
+              (prefix.0, saved_asks taken now w call streams read here said own ∙ (ap (λ list. said ++ list) prefix.1 ∙ sym (append_assoc said front prefix.0)));
+        }),
+      );
 }
 
 -- all ends of saying it

@@ -1,13 +1,12 @@
 -- What a step brings, and how many may still come.
-use Rattle.std.proofs.Common.{arith, ◌≡◌, inl, inr, ℕ, ◌+◌, ◌-◌, ◌*◌, ◌<◌, ◌≤◌, List, [], ◌∷◌, ◌++◌, Bool, true, false, cond, Option, None, Some, refl, sym, ◌∙◌, ap, subst, length}
+use Rattle.std.proofs.Common.{arith, ◌≡◌, inl, ℕ, ◌+◌, ◌-◌, ◌*◌, ◌<◌, ◌≤◌, List, [], ◌∷◌, ◌++◌, false, cond, Option, None, Some, refl, sym, ◌∙◌, ap, subst, length}
 use Rattle.std.specs.Prelude.{option_to_list}
 use Rattle.std.specs.List.{list_any}
 use Rattle.basics.specs.declared.stream.StreamId.{StreamId}
-use Rattle.basics.specs.Told.{told_by, told_more}
+use Rattle.basics.specs.Told.{told_more}
 use Rattle.outside.specs.Desk.{DeskSeen}
-use Rattle.outside.specs.Event.{got_over, read_over}
 use Rattle.outside.specs.Link.{Seen, Grew, own_events}
-use Rattle.outside.specs.declared.event.Event.TheVariants.{Given, Got, GotEnd, ReadEnd, ReadLine}
+use Rattle.outside.specs.declared.event.Event.TheVariants.{Given, Got}
 use Rattle.outside.specs.declared.faults.Side.TheVariants as side
 use Rattle.airbyte_message.specs.Lanes.{Lane, lane_of}
 use Rattle.airbyte_message.specs.State.{State as StateMsg}
@@ -23,7 +22,7 @@ use Rattle.sync_ledger.specs.declared.verdict.Echoed.{Echoed}
 use Rattle.sync_ledger.specs.declared.verdict.Echoed.TheVariants as echoed
 use Rattle.sync_ledger.specs.declared.verdict.Verdict.{Verdict}
 use Rattle.sync_ledger.specs.declared.notes.TheConstants.{MOST_LINES}
-use Rattle.attempt_turns.specs.Heard.{HeardBack, HeardSource, HearsBack, HearsSource}
+use Rattle.attempt_turns.specs.Heard.{HeardSource}
 use Rattle.attempt_turns.specs.History.{Ran}
 use Rattle.attempt_turns.specs.Acts.{events_in}
 use Rattle.attempt_turns.specs.Silence.{Steps, brings, left}
@@ -34,7 +33,7 @@ use Rattle.attempt_turns.proofs.Ways.{acts_then, ran_then}
 use Rattle.attempt_turns.proofs.EndOfOutput.{over_worker}
 use Rattle.attempt_turns.proofs.GiveLemmas.{gives_step}
 use Rattle.attempt_turns.proofs.BackLemmas.{polled_way}
-use Rattle.attempt_turns.proofs.LiveLemmas.{given_worker, got_over_worker}
+use Rattle.attempt_turns.proofs.LiveLemmas.{got_over_worker}
 
 -- ---- what a step brings
 

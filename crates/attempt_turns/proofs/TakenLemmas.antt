@@ -9,7 +9,7 @@ use Rattle.json_fields.specs.Answer.{IsAnswer}
 use Rattle.json_fields.specs.Parts.{IsNumber}
 use Rattle.json_write.proofs.Numerals.{decimal_literal}
 use Rattle.basics.specs.declared.stream.StreamId.{StreamId}
-use Rattle.outside.specs.Event.{given_in, got_in, read_over}
+use Rattle.outside.specs.Event.{given_in, read_over}
 use Rattle.outside.specs.declared.event.Event.{Event}
 use Rattle.outside.specs.declared.event.Event.TheVariants.{Opened, Took, TookEnd, Committed, Emitted, Merged, Shown, Started, ReadLine, ReadEnd, Given, Closed, Got, GotEnd, Saved, Ended}
 use Rattle.airbyte_message.specs.Lanes.{Lane, all}
@@ -29,7 +29,7 @@ use Rattle.load_rules.specs.Attempts.{reads, gives, passed, Waiting, none_given,
 use Rattle.load_rules.proofs.Machines.{states-one}
 use Rattle.load_rules.proofs.TakenLists.{states-append}
 use Rattle.sync_rules.specs.Sync.{completion, completions, texts, to_give, untold}
-use Rattle.sync_rules.proofs.KindLemmas.{all_has, has_back, has_front, has_map, has_parts, heads, some_none, tails}
+use Rattle.sync_rules.proofs.KindLemmas.{all_has, has_back, has_front, has_map, has_parts, heads, tails}
 
 -- ---- which events change what waits
 

@@ -44,11 +44,7 @@ fn hear_back(w: &mut Worker, line: &Bytes) -> Result<Echoed, Status>
 }
 
 // A line that came back is heard, and what is to be said of it is said. It gives the state that it takes.
-fn take_got<K: Desk>(
-    desk: &mut K,
-    w: &mut Worker,
-    line: &Bytes,
-) -> Result<Option<StateMsg>, Status>
+fn take_got<K: Desk>(desk: &mut K, w: &mut Worker, line: &Bytes) -> Result<Option<StateMsg>, Status>
     requires { w.old.got_lines ≤ most_lines }
     ensures ok { IfOk result (λ taken. HeardBack w.old line.now taken w.new (K.seen desk.old) (K.seen desk.new)) }
     ensures err { IfErr result (λ end. BackEnds end w.old line.now w.new (K.seen desk.old) (K.seen desk.new)) }

@@ -1,7 +1,6 @@
 use Rattle.attempt_turns.proofs.EndLemmas.{stays_step}
 use Rattle.attempt_turns.proofs.GiveLemmas.{offer_failed, offer_lacked}
-use Rattle.attempt_turns.proofs.LiveLemmas.{live_given}
-use Rattle.attempt_turns.proofs.StepLemmas.{fewer_given, given_step}
+use Rattle.attempt_turns.proofs.StepLemmas.{given_step}
 use Rattle.attempt_turns.proofs.give.offer_held.Goals as goal
 
 pub returns-in-Taken-clause-ok : goal.returns-in-Taken-clause-ok
