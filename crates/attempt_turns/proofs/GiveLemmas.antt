@@ -1,46 +1,42 @@
 -- A line of the source is given.
-use Rattle.std.proofs.Common.{arith, ◌≡◌, ◌⊎◌, inl, inr, ℕ, zero, suc, ◌<◌, ◌≤◌, List, [], ◌∷◌, ◌++◌, false, cond, Option, None, Some, IfSome, IsTrue, refl, sym, ◌∙◌, ap, subst, append-nil, length}
+use Rattle.std.proofs.Common.{◌≡◌, inl, ℕ, ◌<◌, ◌≤◌, List, [], ◌∷◌, ◌++◌, false, cond, Option, None, Some, refl, sym, ◌∙◌, ap, subst, append-nil, length}
 use Rattle.std.specs.Prelude.{filter, map, option_map, option_to_list, is_none, drop}
 use Rattle.std.specs.List.{list_any}
 use Rattle.std.proofs.lemmas.Bool.{false≢true}
 use Rattle.basics.specs.declared.stream.StreamId.{StreamId}
 use Rattle.basics.specs.Told.{told_more}
 use Rattle.outside.specs.Desk.{DeskSeen}
-use Rattle.outside.specs.Event.{read_over, got_over}
+use Rattle.outside.specs.Event.{read_over}
 use Rattle.outside.specs.Link.{Seen, Grew, own_events}
 use Rattle.outside.specs.declared.event.Event.TheVariants.{Given}
 use Rattle.outside.specs.declared.faults.Side.TheVariants as side
 use Rattle.catalog.specs.Reading.{ids_of}
 use Rattle.catalog.specs.declared.stream.ConfStream.{ConfStream}
-use Rattle.load_rules.specs.Lines.{Reading, lines_read, passes}
+use Rattle.load_rules.specs.Lines.{Reading, ReadsText, lines_read, passes}
 use Rattle.load_rules.specs.Finished.{last_status}
 use Rattle.load_rules.specs.Attempts.{gives, passed, reads}
 use Rattle.load_rules.specs.Engine.{is_closed, is_ended}
 use Rattle.sync_rules.specs.Sync.{Running, and_event, completion, texts, to_give, untold, with_event}
 use Rattle.sync_rules.specs.Steps.{GivesNext, InAttempt}
-use Rattle.sync_ledger.specs.Noted.{Noted, gave}
+use Rattle.sync_ledger.specs.Noted.{gave}
 use Rattle.sync_ledger.specs.declared.notes.TheConstants.{MOST_LINES}
 use Rattle.ledger_rules.specs.Ledgers.{IsLedgerOf}
 use Rattle.ledger_rules.proofs.Stands.{gives as ledger_gives}
-use Rattle.outside.specs.declared.event.Exit.TheVariants.{Code}
 use Rattle.outside.specs.declared.link.LinkFace.{LinkFace}
-use Rattle.outside.specs.declared.status.Status.{Status}
 use Rattle.outside.specs.declared.status.Status.TheVariants as status
-use Rattle.load_rules.specs.Prefixes.{IsPrefix}
-use Rattle.sync_rules.specs.Calls.{Call}
-use Rattle.attempt_turns.specs.Acts.{Place, does, place_after}
-use Rattle.attempt_turns.specs.Ends.{CanStop, Ends, EndsSo}
+use Rattle.attempt_turns.specs.Acts.{does, place_after}
+use Rattle.attempt_turns.specs.Ends.{Ends}
 use Rattle.attempt_turns.specs.History.{Ran}
-use Rattle.attempt_turns.proofs.EndOfOutput.{told_got, told_read}
+use Rattle.attempt_turns.specs.Silence.{Steps}
+use Rattle.attempt_turns.specs.declared.worker.Moved.TheVariants as moved
+use Rattle.attempt_turns.specs.Placed.{ArePlaced}
+use Rattle.attempt_turns.proofs.LiveLemmas.{given_worker}
 use Rattle.attempt_turns.specs.Worker.{ComesBack, IsOn, Live, Stands, is_error, left_to_give}
 use Rattle.attempt_turns.specs.declared.worker.Worker.{Worker}
-use Rattle.attempt_turns.proofs.Lists.{any_one, each_one, gives_one, got_over_one, read_over_one, same_gots, same_reads}
+use Rattle.attempt_turns.proofs.Placed.{placed_given}
+use Rattle.attempt_turns.proofs.Lists.{any_one, each_one, gives_one, got_over_one, read_over_one, reading_one, same_gots, same_reads}
 use Rattle.attempt_turns.proofs.ReadLemmas.{not_completing}
-use Rattle.attempt_turns.proofs.EndLemmas.{clean, desk_same, ends_here, given_front, no_events, none_said, stays_way}
-use Rattle.attempt_turns.proofs.Ways.{grew_none}
-
-abbrev pub given_worker : Worker → Worker
-given_worker w = record w { ledger = gave w.ledger; held = None }
+use Rattle.attempt_turns.proofs.EndLemmas.{coded, desk_same, failed_way, lacked_way, none_said, unfinished_open}
 
 -- what is to be given is the same, and the line is no more held
 give_next : (ids : List StreamId) (read : Reading) (w : Worker) (own : Running) (text : List ℕ) → w.held ≡ Some text → to_give ids read own.events ≡ (gives own.events ++ option_to_list w.held) ++ left_to_give w ids read own.events
@@ -56,14 +52,19 @@ give_next ids read w own text held before =
     ∙ (ap (λ list. list ++ left_to_give w ids read events) (ap (λ it. gives events ++ option_to_list it) held ∙ (sym (gives_one events (Given text)) ∙ sym (append-nil (gives next))))
     ∙ ap (λ list. (gives next ++ []) ++ cond w.read_over (map completion (filter (λ id. is_none (last_status id (lines_read read list))) (drop w.completed ids))) []) (sym same))))
 
-gives_on : (w : Worker) (streams : List ConfStream) (read : Reading) (own : Running) (text : List ℕ) → w.held ≡ Some text → w.is_completing ≡ false → w.closed ≡ false → IsOn w streams read own → IsOn (given_worker w) streams read (and_event (Given text) own)
-gives_on w streams read own text held own_line opened on =
+gives_on : (w : Worker) (streams : List ConfStream) (read : Reading) (own : Running) (text : List ℕ) → ReadsText read text → w.held ≡ Some text → w.is_completing ≡ false → w.closed ≡ false → IsOn w streams read own → IsOn (given_worker w) streams read (and_event (Given text) own)
+gives_on w streams read own text right held own_line opened on =
     let ids = ids_of streams in
     let events = own.events in
+    let held_is = not_completing w w.held own_line ∙ held in
+    let holding = subst (λ line. IsLedgerOf ids own.start read events line w.ledger) held_is on.ledger in
     record {
       orderly = on.orderly;
+      reading = reading_one read events (Given text) on.reading right;
       ledger = subst (λ line. IsLedgerOf ids own.start read (events ++ Given text ∷ []) line (gave w.ledger)) (sym (not_completing w None own_line))
-          (ledger_gives ids own.start read events w.ledger text (subst (λ line. IsLedgerOf ids own.start read events line w.ledger) (not_completing w w.held own_line ∙ held) on.ledger));
+          (ledger_gives ids own.start read events w.ledger text holding);
+      placed = subst (λ line. ArePlaced ids read (events ++ Given text ∷ []) line (gave w.ledger)) (sym (not_completing w None own_line))
+          (placed_given ids own.start read events w.ledger text holding (subst (λ line. ArePlaced ids read events line w.ledger) held_is on.placed));
       start = on.start;
       kept = on.kept;
       set_fits = record { has_streams = on.set_fits.has_streams; of_streams = on.set_fits.of_streams; of_all = on.set_fits.of_all };
@@ -81,8 +82,8 @@ gives_on w streams read own text held own_line opened on =
       got_lines = on.got_lines ∙ ap length (sym (same_gots events (Given text) refl));
       gives_next = give_next ids read w own text held on.gives_next;
       reads_first = on.reads_first;
-      own_lines = λ none zero. ap (λ list. texts (filter (λ line. passes ids line.found) (lines_read read list))) (same_reads events (Given text) refl)
-          ∙ (on.own_lines none zero ∙ (ap (λ it. gives events ++ option_to_list it) held ∙ (sym (gives_one events (Given text)) ∙ sym (append-nil (gives (events ++ Given text ∷ []))))));
+      own_lines = λ none first. ap (λ list. texts (filter (λ line. passes ids line.found) (lines_read read list))) (same_reads events (Given text) refl)
+          ∙ (on.own_lines none first ∙ (ap (λ it. gives events ++ option_to_list it) held ∙ (sym (gives_one events (Given text)) ∙ sym (append-nil (gives (events ++ Given text ∷ []))))));
     }
 
 may_give : (w : Worker) (streams : List ConfStream) (read : Reading) (text : List ℕ) (own : Option Running) (attempt : Running) → own ≡ Some attempt → w.held ≡ Some text → w.closed ≡ false → IsOn w streams read attempt → InAttempt own (GivesNext (ids_of streams) read text)
@@ -95,101 +96,42 @@ may_give w streams read text own attempt runs held opened on = subst (λ it. InA
   },
 )
 
-pub gives_way : (w : Worker) (text : List ℕ) (old new : Seen) (desk : DeskSeen) → w.held ≡ Some text → w.is_completing ≡ false → w.closed ≡ false → own_events new ≡ told_more (Given text ∷ []) (own_events old) → Grew old new → Ran (Stands w) (Stands (given_worker w)) old new desk desk
-gives_way w text old new desk held own_line opened added grew = record {
-  acts = does (Given text) ∷ [];
-  lines = [];
-  added = added;
-  said = none_said desk;
-  grew = grew;
-  desk = desk_same desk;
-  leads = λ call streams read here said reading stands. (
-    place_after read here (Given text) (with_event (Given text) here.standing.sync),
-    (
-      with_event (Given text) here.standing.sync,
-      (may_give w streams read text here.standing.sync.attempt stands.attempt stands.runs held opened stands.on, refl),
-      subst (λ (n : ℕ). 0 < n) (sym stands.is_last.number) stands.is_last.positive,
-      record { works = stands.is_last.works; order = stands.is_last.number ∙ sym stands.is_last.ended },
-      refl,
-    ),
-    record {
-      is_last = record { begun = stands.is_last.begun; number = stands.is_last.number; positive = stands.is_last.positive; ended = stands.is_last.ended; works = stands.is_last.works };
-      attempt = and_event (Given text) stands.attempt;
-      runs = ap (option_map (and_event (Given text))) stands.runs;
-      on = gives_on w streams read stands.attempt text held own_line opened stands.on;
-      set = stands.set;
-      none_owed = stands.none_owed;
-      said_all = ap (λ list. list ++ []) stands.said_all;
-    },
-  );
+pub gives_step : (w : Worker) (text : List ℕ) (old new : Seen) (desk : DeskSeen) → w.held ≡ Some text → w.is_completing ≡ false → w.closed ≡ false → own_events new ≡ told_more (Given text ∷ []) (own_events old) → Grew old new → Steps moved.Yes (Stands w) (Stands (given_worker w)) old new desk desk
+gives_step w text old new desk held own_line opened added grew = record {
+  ran = record {
+    acts = does (Given text) ∷ [];
+    lines = [];
+    added = added;
+    said = none_said desk;
+    grew = grew;
+    desk = desk_same desk;
+    leads = λ call streams read here said reading stands. (
+      place_after read here (Given text) (with_event (Given text) here.standing.sync),
+      (
+        with_event (Given text) here.standing.sync,
+        (may_give w streams read text here.standing.sync.attempt stands.attempt stands.runs held opened stands.on, refl),
+        subst (λ (n : ℕ). 0 < n) (sym stands.is_last.number) stands.is_last.positive,
+        record { works = stands.is_last.works; order = stands.is_last.number ∙ sym stands.is_last.ended },
+        refl,
+      ),
+      record {
+        is_last = record { begun = stands.is_last.begun; number = stands.is_last.number; positive = stands.is_last.positive; ended = stands.is_last.ended; works = stands.is_last.works };
+        attempt = and_event (Given text) stands.attempt;
+        runs = ap (option_map (and_event (Given text))) stands.runs;
+        on = gives_on w streams read stands.attempt text reading.0 held own_line opened stands.on;
+        set = stands.set;
+        none_owed = stands.none_owed;
+        said_all = ap (λ list. list ++ []) stands.said_all;
+      },
+    );
+  };
+  are = inl refl;
 }
 
 -- ---- an offer that fails
 
-may_stop_by : (w : Worker) (call : Call) (streams : List ConfStream) (read : Reading) (face : LinkFace) (here : Place) (said : List (List ℕ)) → w.is_completing ≡ false → (0 < w.completed → face.codes.source ≡ Some (Code 0)) → Stands w call streams read here said → CanStop streams read face here
-may_stop_by w call streams read face here said own_line code stands = record { attempt = stands.attempt; runs = stands.runs; going = stands.on.going; rightly = at w.completed refl }
-  where
-    at : (n : ℕ) → w.completed ≡ n → IsPrefix (gives stands.attempt.events) (texts (passed (ids_of streams) read stands.attempt.events)) ⊎ (face.codes.source ≡ Some (Code 0))
-    at zero none = inl (given_front w streams read stands.attempt stands.on own_line none)
-    at (suc n) some = inr (code (omega (arith, some)))
+pub offer_failed : (w : Worker) (old new : Seen) (desk : DeskSeen) → w.closed ≡ false → Live w old → new.face ≡ old.face → own_events new ≡ own_events old → Grew old new → Ran (Stands w) (Ends status.LinkFault new.face w) old new desk desk
+offer_failed w old new desk opened live face same grew = failed_way w old new desk (unfinished_open w opened) (coded w old new live (ap (λ (it : LinkFace). it.codes.source) face)) same grew
 
-ends_offer : (end : Status) (w : Worker) (old new : Seen) (desk : DeskSeen) → w.is_completing ≡ false → Live w old → new.face ≡ old.face → own_events new ≡ own_events old → Grew old new
-    → ((streams : List ConfStream) (read : Reading) (own : Running) → IsOn w streams read own → EndsSo end (ids_of streams) read new.face own) → Ran (Stands w) (Ends end new.face w) old new desk desk
-ends_offer end w old new desk own_line live face same grew so = record {
-  acts = [];
-  lines = [];
-  added = no_events old new same;
-  said = none_said desk;
-  grew = grew;
-  desk = desk_same desk;
-  leads = λ call streams read here said reading stands. (
-    here,
-    refl,
-    subst (λ list. Ends end new.face w call streams read here list) (sym (append-nil said))
-        (ends_here end new.face w call streams read here said stands (so streams read stands.attempt stands.on)
-        (λ running. may_stop_by w call streams read new.face here said own_line (λ some. ap (λ (it : LinkFace). it.codes.source) face ∙ live.completed (inr some)) stands)),
-  );
-}
-
-pub offer_failed : (w : Worker) (old new : Seen) (desk : DeskSeen) → w.is_completing ≡ false → Live w old → new.face ≡ old.face → own_events new ≡ own_events old → Grew old new → Ran (Stands w) (Ends status.LinkFault new.face w) old new desk desk
-offer_failed w old new desk own_line live face same grew = ends_offer status.LinkFault w old new desk own_line live face same grew (λ streams read own on. clean w streams read own on)
-
-pub offer_lacked : (w : Worker) (old new : Seen) (desk : DeskSeen) → w.is_completing ≡ false → Live w old → new.face ≡ old.face → own_events new ≡ own_events old → Grew old new → Ran (Stands w) (Ends status.NoMemory new.face w) old new desk desk
-offer_lacked w old new desk own_line live face same grew = ends_offer status.NoMemory w old new desk own_line live face same grew (λ streams read own on. tt)
-
--- ---- the link behind an offer
-
-pub live_same : (w : Worker) (old new : Seen) → Live w old → new.face ≡ old.face → own_events new ≡ own_events old → Live w new
-live_same w old new live face same = record {
-  running = subst (λ (it : LinkFace). IsTrue it.running) (sym face) live.running;
-  input_open = λ opened. subst (λ (it : LinkFace). IsTrue it.input_open) (sym face) (live.input_open opened);
-  read_told = subst (λ told. IfSome told (λ events. read_over events ≡ w.read_over)) (sym same) live.read_told;
-  got_told = subst (λ told. IfSome told (λ events. got_over events ≡ w.got_over)) (sym same) live.got_told;
-  source_short = λ long. live.source_short (sym (ap (λ (it : LinkFace). it.source_poll) face) ∙ long);
-  dest_short = λ long. live.dest_short (sym (ap (λ (it : LinkFace). it.dest_poll) face) ∙ long);
-  completed = λ some. ap (λ (it : LinkFace). it.codes.source) face ∙ live.completed some;
-  all_completed = λ closed code. live.all_completed closed (sym (ap (λ (it : LinkFace). it.codes.source) face) ∙ code);
-}
-
-pub live_given : (w : Worker) (text : List ℕ) (old new : Seen) → w.closed ≡ false → Live w old → new.face ≡ old.face → own_events new ≡ told_more (Given text ∷ []) (own_events old) → Live (given_worker w) new
-live_given w text old new opened live face added = record {
-  running = subst (λ (it : LinkFace). IsTrue it.running) (sym face) live.running;
-  input_open = λ open_so. subst (λ (it : LinkFace). IsTrue it.input_open) (sym face) (live.input_open open_so);
-  read_told = subst (λ told. IfSome told (λ events. read_over events ≡ w.read_over)) (sym added) (told_read (own_events old) (Given text) w.read_over (λ b. refl) live.read_told);
-  got_told = subst (λ told. IfSome told (λ events. got_over events ≡ w.got_over)) (sym added) (told_got (own_events old) (Given text) w.got_over (λ b. refl) live.got_told);
-  source_short = λ long. live.source_short (sym (ap (λ (it : LinkFace). it.source_poll) face) ∙ long);
-  dest_short = λ long. live.dest_short (sym (ap (λ (it : LinkFace). it.dest_poll) face) ∙ long);
-  completed = λ some. ap (λ (it : LinkFace). it.codes.source) face ∙ live.completed some;
-  all_completed = λ closed code. absurd (false≢true (sym opened ∙ closed));
-}
-
--- ---- for the function
-
-pub gives_taken : (w : Worker) (ledger : Noted) (text line : List ℕ) (old new : Seen) (desk : DeskSeen) → ledger ≡ gave w.ledger → line ≡ text → w.held ≡ Some text → w.is_completing ≡ false → w.closed ≡ false → own_events new ≡ told_more (Given line ∷ []) (own_events old) → Grew old new
-    → Ran (Stands w) (Stands (record w { ledger = ledger; held = None })) old new desk desk
-gives_taken w ledger text line old new desk gave_is same held own_line opened added grew =
-    subst (λ it. Ran (Stands w) (Stands (record w { ledger = it; held = None })) old new desk desk) (sym gave_is)
-    (gives_way w text old new desk held own_line opened (added ∙ ap (λ it. told_more (Given it ∷ []) (own_events old)) same) grew)
-
-pub rests_way : (w : Worker) (seen : Seen) (desk : DeskSeen) → Ran (Stands w) (Stands w) seen seen desk desk
-rests_way w seen desk = stays_way w seen seen desk refl (grew_none seen)
+pub offer_lacked : (w : Worker) (old new : Seen) (desk : DeskSeen) → Live w old → new.face ≡ old.face → own_events new ≡ own_events old → Grew old new → Ran (Stands w) (Ends status.NoMemory new.face w) old new desk desk
+offer_lacked w old new desk live face same grew = lacked_way w old new desk (coded w old new live (ap (λ (it : LinkFace). it.codes.source) face)) same grew
