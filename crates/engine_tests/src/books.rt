@@ -38,7 +38,7 @@ const STATUS_OF_ZZ: &str =
     r#"{"type":"TRACE","trace":{"type":"STREAM_STATUS","emitted_at":1,"stream_status":{"stream_descriptor":{"name":"zz"},"status":"COMPLETE"}}}"#;
 
 // Room for a line of the greatest length, and little else.
-const SMALL: Bounds = (4, 20_971_520, 2);
+const SMALL: Bounds = (4, 20_971_520, 2, 10);
 
 // A catalog, bounds, calls of the dock that fail, the input, what is done, and what is answered.
 type Row = (
@@ -298,7 +298,7 @@ rows"#,
     // Four slots, and batches of four: the fifth record waits until the batch is committed.
     (
         ONE,
-        (4, 20_971_520, 4),
+        (4, 20_971_520, 4, 10),
         &[],
         (
             &[

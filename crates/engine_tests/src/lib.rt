@@ -6,6 +6,8 @@ mod book_plays;
 #[cfg(test)]
 mod books;
 #[cfg(test)]
+mod finishes;
+#[cfg(test)]
 mod gates;
 #[cfg(test)]
 mod pools;

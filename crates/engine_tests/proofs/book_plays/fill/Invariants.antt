@@ -1,5 +1,5 @@
 use Rattle.std.specs.Prelude.{IsTrue}
-use Rattle.engine_tests.proofs.book_plays.dock_with.Given as goal
+use Rattle.engine_tests.proofs.book_plays.fill.Given as goal
 
 -- the input is open
 abbrev pub invariant-loop-line : goal.invariant-loop-line
