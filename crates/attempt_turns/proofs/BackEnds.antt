@@ -45,7 +45,7 @@ use Rattle.sync_ledger.specs.declared.verdict.Echoed.TheVariants as echoed
 use Rattle.sync_ledger.specs.declared.notes.TheConstants.{MOST_LINES}
 use Rattle.ledger_rules.proofs.Stands.{goes_on, refuses}
 use Rattle.attempt_turns.specs.Acts.{Place, does, lines_told, place_after}
-use Rattle.attempt_turns.specs.Ends.{Ends, EndsSo, SaidSo, TurnCause, is_again}
+use Rattle.attempt_turns.specs.Ends.{Ends, EndsSo, SaidSo, is_again}
 use Rattle.attempt_turns.specs.Heard.{BackEnds, HalfSaidBack, HearsBack, SaysLines}
 use Rattle.attempt_turns.specs.History.{Ran}
 use Rattle.attempt_turns.specs.Silence.{Steps}
@@ -304,13 +304,6 @@ back_ends_way (status.ConfigError side.Dest line) w now text seen desk_old desk_
 back_ends_way status.SayFault w now text seen desk_old desk_new is = half_said_back w now text seen desk_old desk_new is
 back_ends_way status.NoMemory w now text seen desk_old desk_new is = lacked_back w now text seen desk_old desk_new is.0 is.1
 back_ends_way end w now text seen desk_old desk_new is = absurd is
-
-pub back_cause : (end : Status) (w now : Worker) (text : List ℕ) (old new : Seen) (desk_old desk_new : DeskSeen) → BackEnds end w text now desk_old desk_new → TurnCause end old new desk_old desk_new
-back_cause (status.DestBreach why line) w now text old new desk_old desk_new is = tt
-back_cause (status.ConfigError side.Dest line) w now text old new desk_old desk_new is = tt
-back_cause status.SayFault w now text old new desk_old desk_new is = is.said.rose
-back_cause status.NoMemory w now text old new desk_old desk_new is = tt
-back_cause end w now text old new desk_old desk_new is = absurd is
 
 -- ---- polls that bring no line
 

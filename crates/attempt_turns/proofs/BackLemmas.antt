@@ -359,12 +359,6 @@ some_owed : (owed : Option LaneState) (taken : StateMsg) → Some taken ≡ stat
 some_owed None taken same = absurd (some_none same)
 some_owed (Some state) taken same = (state, refl, some_is (sym same))
 
-state_answer : (answer : Echoed) (taken : StateMsg) → taken_by answer ≡ Some taken → answer ≡ echoed.State taken
-state_answer (echoed.State state) taken is = ap (λ it. echoed.State it) (some_is is)
-state_answer (echoed.Say line) taken is = absurd (some_none (sym is))
-state_answer echoed.Nothing taken is = absurd (some_none (sym is))
-state_answer (echoed.ConfigError line) taken is = absurd (some_none (sym is))
-
 taken_has : (read : Reading) (events : List Event) (text : List ℕ) (owed : Option LaneState) (state : LaneState) → Takes read events text owed → owed ≡ Some state → Has state (states (lines_read read (gives events)))
 taken_has read events text None state takes_it is = absurd (some_none (sym is))
 taken_has read events text (Some taken) state takes_it is = subst (λ it. Has it (states (lines_read read (gives events)))) (some_is is) (taken_among read events takes_it.0 taken takes_it.2)

@@ -330,11 +330,6 @@ save_ends status.StateFault taken text now w old new desk puts text_is code is g
 save_ends status.NoMemory taken text now w old new desk puts text_is code is grew = lacked_owed taken w (set_worker w now) old new desk refl code is grew
 save_ends end taken text now w old new desk puts text_is code is grew = absurd is
 
-pub save_cause : (end : Status) (text : List ℕ) (old new : Seen) (desk_old desk_new : DeskSeen) → SaveEnds end text old new → TurnCause end old new desk_old desk_new
-save_cause status.StateFault text old new desk_old desk_new is = is.1
-save_cause status.NoMemory text old new desk_old desk_new is = tt
-save_cause end text old new desk_old desk_new is = absurd is
-
 -- it was saved, and could not be said
 unsaid_way : (end : Status) (taken : StateMsg) (text : List ℕ) (front : List (List ℕ)) (now : Set) (w : Worker) (old new : Seen) (desk_old desk_new : DeskSeen) → is_again end ≡ false → ((ids : List StreamId) (read : Reading) (own : Running) → EndsSo end ids read new.face own) → ((sync : Sync) → sync.owed ≡ None → OwesNothing end sync)
     → ((asked said : List (List ℕ)) → IsPrefix said asked → SaidSo end asked said) → PutsInto taken w.set now → text ≡ store_text now → HasCode w new.face → own_events new ≡ told_more (Saved text ∷ []) (own_events old) → Grew old new
