@@ -1,37 +1,39 @@
 -- An attempt ends where its worker stands, or behind a line that was read.
-use Rattle.std.proofs.Common.{arith, ◌≡◌, inl, inr, ℕ, ◌+◌, ◌-◌, min, ◌<◌, ◌≤◌, List, [], ◌∷◌, ◌++◌, Bool, true, false, cond, ◌||◌, Option, None, Some, Ok, Err, refl, sym, ◌∙◌, ap, subst, append_assoc, append-nil, length, length-append, nat_lt, lt-ltb}
+use Rattle.std.proofs.Common.{arith, ◌≡◌, ◌⊎◌, inl, inr, ℕ, zero, suc, ◌+◌, ◌-◌, min, ◌<◌, ◌≤◌, List, [], ◌∷◌, ◌++◌, Bool, true, false, cond, ◌||◌, Option, None, Some, Ok, Err, refl, sym, ◌∙◌, ap, subst, append_assoc, append-nil, length, length-append, nat_lt, lt-ltb}
 use Rattle.std.specs.Prelude.{option_map, option_to_list, ◌^◌}
 use Rattle.std.proofs.lemmas.List.{length-map}
+use Rattle.std.proofs.lemmas.List.Sums.{fold-append}
 use Rattle.std.specs.List.{list_any}
 use Rattle.std.proofs.lemmas.Bool.{false≢true}
 use Rattle.basics.specs.declared.limits.TheConstants.{LONGEST_LINE}
 use Rattle.basics.specs.Told.{told_more}
 use Rattle.outside.specs.Desk.{DeskSeen}
+use Rattle.outside.specs.Event.{got_over, got_over_after}
 use Rattle.outside.specs.Link.{Seen, Grew, own_events}
-use Rattle.outside.specs.declared.event.Event.TheVariants.{ReadLine}
+use Rattle.outside.specs.declared.event.Event.TheVariants.{Closed, ReadLine}
+use Rattle.outside.specs.declared.event.Exit.TheVariants.{Code}
 use Rattle.outside.specs.declared.faults.Breach.{Breach}
 use Rattle.outside.specs.declared.faults.Breach.TheVariants as breach
 use Rattle.outside.specs.declared.link.LinkFace.{LinkFace}
 use Rattle.outside.specs.declared.link.PollKind.TheVariants as kind
 use Rattle.outside.specs.declared.status.Status.{Status}
 use Rattle.outside.specs.declared.status.Status.TheVariants as status
-use Rattle.attempt_loop.specs.Attempts.{is_retried}
 use Rattle.catalog.specs.Reading.{ids_of}
 use Rattle.catalog.specs.declared.stream.ConfStream.{ConfStream}
 use Rattle.load_rules.specs.Prefixes.{IsPrefix}
 use Rattle.load_rules.specs.Lines.{Reading}
 use Rattle.load_rules.specs.Attempts.{gives, passed}
-use Rattle.sync_rules.specs.Calls.{Call, OwesNothing}
+use Rattle.sync_rules.specs.Calls.{Call, IsThrough, OwesNothing}
 use Rattle.sync_rules.specs.Sync.{Running, Sync, texts}
 use Rattle.airbyte_message.specs.Lanes.{lane_of}
 use Rattle.airbyte_message.specs.Messages.{IsMessage}
 use Rattle.outside.specs.declared.faults.Side.TheVariants as side
 use Rattle.load_rules.specs.Lines.{ReadsText}
 use Rattle.load_rules.specs.Attempts.{reads}
-use Rattle.load_rules.specs.Engine.{is_ended}
+use Rattle.load_rules.specs.Engine.{is_closed, is_ended}
 use Rattle.sync_rules.specs.Calls.{Standing}
 use Rattle.sync_rules.specs.Sync.{and_event}
-use Rattle.sync_rules.proofs.KindLemmas.{or_right}
+use Rattle.sync_rules.proofs.KindLemmas.{any_back, by_bool, or_right}
 use Rattle.sync_ledger.specs.Accounts.{account_of}
 use Rattle.sync_ledger.specs.Judged.{Refuses, RefusesMessage, judged, judged_status, judged_told}
 use Rattle.sync_ledger.specs.Noted.{Noted}
@@ -49,11 +51,11 @@ use Rattle.ledger_rules.proofs.Judges.{judges, ok_is}
 use Rattle.ledger_rules.proofs.Stands.{reads_on}
 use Rattle.attempt_turns.specs.Acts.{does, Place, is_refused, lines_of, lines_told, reads_in}
 use Rattle.attempt_turns.specs.History.{KeepsDesk, Ran}
-use Rattle.attempt_turns.specs.Ends.{CanStop, Ends, EndsSo, ErrsSo, IsClean, RefusesLast, SaidSo, TurnCause}
+use Rattle.attempt_turns.specs.Ends.{CanStop, Ends, EndsSo, ErrsSo, IsClean, Knows, RefusesLast, SaidSo, TooManyRead, TurnCause, is_again}
 use Rattle.attempt_turns.specs.Heard.{HalfSaid, HearsSource, LineEnds, SaysLines, lines_answered}
-use Rattle.attempt_turns.specs.Worker.{ComesBack, IsOn, IsReadable, Stands, is_error, is_error_saying, is_error_told, source_held}
+use Rattle.attempt_turns.specs.Worker.{ComesBack, HasCode, IsOn, IsReadable, Live, Stands, is_error, is_error_saying, is_error_told, source_held}
 use Rattle.attempt_turns.specs.declared.worker.Worker.{Worker}
-use Rattle.attempt_turns.proofs.Lists.{any_one, each_one, reads_one, same_gots}
+use Rattle.attempt_turns.proofs.Lists.{any_one, each_one, got_more, reads_one, same_gots}
 use Rattle.attempt_turns.proofs.ReadLemmas.{account_give, answer_only, few_lines, front_read, going_read, judged_by, lines_are, not_completing, not_refused, read_place, short, state_give, told_is}
 
 -- ---- where nothing is owed and all is said
@@ -77,25 +79,45 @@ less_same m n same less = omega (arith, same, less)
 pub given_front : (w : Worker) (streams : List ConfStream) (read : Reading) (own : Running) → IsOn w streams read own → w.is_completing ≡ false → w.completed ≡ 0 → IsPrefix (gives own.events) (texts (passed (ids_of streams) read own.events))
 given_front w streams read own on none zero = (option_to_list w.held, on.own_lines none zero)
 
--- while lines are read no completion was made
-pub may_stop : (w : Worker) (call : Call) (streams : List ConfStream) (read : Reading) (face : LinkFace) (here : Place) (said : List (List ℕ)) → w.read_over ≡ false → Stands w call streams read here said → CanStop streams read face here
-may_stop w call streams read face here said going stands =
-    let none = stands.on.reads_first going in
-    record { attempt = stands.attempt; runs = stands.runs; going = stands.on.going; rightly = inl (given_front w streams read stands.attempt stands.on none.0 none.1) }
+-- the code stays known
+pub coded : (w : Worker) (old new : Seen) → Live w old → new.face.codes.source ≡ old.face.codes.source → HasCode w new.face
+coded w old new live same some = same ∙ live.completed some
+
+-- where a completion was made the code is known
+pub rightly : (w : Worker) (streams : List ConfStream) (read : Reading) (face : LinkFace) (own : Running) → HasCode w face → IsOn w streams read own → IsPrefix (gives own.events) (texts (passed (ids_of streams) read own.events)) ⊎ (face.codes.source ≡ Some (Code 0))
+rightly w streams read face own code on = by_bool w.is_completing (λ is. inr (code (inl is))) (λ none. at none w.completed refl)
+  where
+    at : w.is_completing ≡ false → (n : ℕ) → w.completed ≡ n → IsPrefix (gives own.events) (texts (passed (ids_of streams) read own.events)) ⊎ (face.codes.source ≡ Some (Code 0))
+    at none zero is = inl (given_front w streams read own on none is)
+    at none (suc n) is = inr (code (inr (omega (arith, is))))
+
+pub may_stop : (w : Worker) (call : Call) (streams : List ConfStream) (read : Reading) (face : LinkFace) (here : Place) (said : List (List ℕ)) → HasCode w face → Stands w call streams read here said → CanStop streams read face here
+may_stop w call streams read face here said code stands = record { number = stands.is_last.number ∙ sym stands.is_last.ended; attempt = stands.attempt; runs = stands.runs; going = stands.on.going; rightly = rightly w streams read face stands.attempt code stands.on }
+
+-- the worker has what the attempt's events say
+knows_on : (w : Worker) (streams : List ConfStream) (read : Reading) (face : LinkFace) (own : Running) → IsOn w streams read own → Knows w (ids_of streams) read face own
+knows_on w streams read face own on = record {
+  read_so = on.read_so;
+  got_so = on.got_so;
+  closed = λ closed. on.closed ∙ closed;
+  opened = λ opened known. on.closed ∙ opened;
+  held = on.own_lines;
+}
 
 -- the attempt ends where it stands
 pub ends_here : (end : Status) (face : LinkFace) (w : Worker) (call : Call) (streams : List ConfStream) (read : Reading) (here : Place) (said : List (List ℕ)) (stands : Stands w call streams read here said)
     → EndsSo end (ids_of streams) read face stands.attempt → (face.running ≡ true → CanStop streams read face here) → Ends end face w call streams read here said
 ends_here end face w call streams read here said stands so stop = record {
-  begun = λ retried. stands.is_last.begun;
+  begun = stands.is_last.begun;
   number = (let same = stands.is_last.number in omega (arith, same));
   ended = stands.is_last.ended;
   failed = λ failed. absurd (false≢true (sym stands.is_last.works ∙ failed));
   set = λ retried. stands.set;
   paid = owes_nothing end here.standing.sync stands.none_owed;
   so = λ same. (stands.attempt, stands.runs, so);
+  knows = λ retried same. (stands.attempt, stands.runs, knows_on w streams read face stands.attempt stands.on);
   unstarted = λ less. absurd (less_same here.standing.called.number w.number stands.is_last.number less);
-  can_stop = λ same running. stop running;
+  can_stop = stop;
   said_so = all_said end here.asked said stands.said_all;
 }
 
@@ -117,9 +139,9 @@ pub desk_same : (desk : DeskSeen) → KeepsDesk desk desk
 desk_same desk = record { say_faults = omega arith; read_faults = refl; texts = refl }
 
 -- nothing was told, and the attempt ends
-pub ends_way : (end : Status) (w : Worker) (old new : Seen) (desk : DeskSeen) → w.read_over ≡ false → own_events new ≡ own_events old → Grew old new
+pub ends_way : (end : Status) (w : Worker) (old new : Seen) (desk : DeskSeen) → HasCode w new.face → own_events new ≡ own_events old → Grew old new
     → ((streams : List ConfStream) (read : Reading) (own : Running) → IsOn w streams read own → EndsSo end (ids_of streams) read new.face own) → Ran (Stands w) (Ends end new.face w) old new desk desk
-ends_way end w old new desk going same grew so = record {
+ends_way end w old new desk code same grew so = record {
   acts = [];
   lines = [];
   added = no_events old new same;
@@ -130,7 +152,7 @@ ends_way end w old new desk going same grew so = record {
     here,
     refl,
     subst (λ list. Ends end new.face w call streams read here list) (sym (append-nil said))
-        (ends_here end new.face w call streams read here said stands (so streams read stands.attempt stands.on) (λ running. may_stop w call streams read new.face here said going stands)),
+        (ends_here end new.face w call streams read here said stands (so streams read stands.attempt stands.on) (λ running. may_stop w call streams read new.face here said code stands)),
   );
 }
 
@@ -149,18 +171,20 @@ stays_way w old new desk same grew = record {
 -- ---- behind a line that was read
 
 read_ends : (end : Status) (face : LinkFace) (w now : Worker) (call : Call) (streams : List ConfStream) (read : Reading) (here : Place) (said lines : List (List ℕ)) (text : List ℕ) (stands : Stands w call streams read here said)
-    → w.read_over ≡ false → is_retried end ≡ false → now.number ≡ w.number → EndsSo end (ids_of streams) read face (and_event (ReadLine text) stands.attempt) → SaidSo end (here.asked ++ lines_of read here.standing (ReadLine text)) (said ++ lines)
+    → w.read_over ≡ false → is_again end ≡ false → now.number ≡ w.number → EndsSo end (ids_of streams) read face (and_event (ReadLine text) stands.attempt) → SaidSo end (here.asked ++ lines_of read here.standing (ReadLine text)) (said ++ lines)
     → Ends end face now call streams read (read_place read here text) (said ++ lines)
 read_ends end face w now call streams read here said lines text stands going kept number so said_so = record {
-  begun = λ retried. absurd (false≢true (sym kept ∙ retried));
+  begun = stands.is_last.begun ∙ sym number;
   number = (let same = stands.is_last.number in omega (arith, same, number));
   ended = stands.is_last.ended ∙ sym number;
   failed = λ failed. absurd (false≢true (sym stands.is_last.works ∙ failed));
   set = λ retried. absurd (false≢true (sym kept ∙ retried));
   paid = owes_nothing end (read_place read here text).standing.sync stands.none_owed;
   so = λ same. (and_event (ReadLine text) stands.attempt, ap (option_map (and_event (ReadLine text))) stands.runs, so);
+  knows = λ retried same. absurd (false≢true (sym kept ∙ retried));
   unstarted = λ less. absurd (less_same here.standing.called.number now.number (stands.is_last.number ∙ sym number) less);
-  can_stop = λ same running. record {
+  can_stop = λ running. record {
+    number = stands.is_last.number ∙ sym stands.is_last.ended;
     attempt = and_event (ReadLine text) stands.attempt;
     runs = ap (option_map (and_event (ReadLine text))) stands.runs;
     going = any_one is_ended stands.attempt.events (ReadLine text) refl ∙ stands.on.going;
@@ -303,12 +327,24 @@ too_many_way w now text old new desk_old desk_new many same says going added gre
   );
 }
   where
-    last_line : (streams : List ConfStream) (read : Reading) (own : Running) → IsOn w streams read own → length (reads (own.events ++ ReadLine text ∷ [])) ≡ 2 ^ 32
-    last_line streams read own on =
-        let next : length (reads (own.events ++ ReadLine text ∷ [])) ≡ length (reads own.events) + 1 = ap length (reads_one own.events (ReadLine text)) ∙ length-append (reads own.events) (text ∷ []) in
-        let number = few_lines (ids_of streams) w streams read own on in
-        let few = on.few_lines in
-        omega (arith, next, number, few, many)
+    last_line : (streams : List ConfStream) (read : Reading) (own : Running) → IsOn w streams read own → TooManyRead (ids_of streams) read (and_event (ReadLine text) own)
+    last_line streams read own on = record {
+      front = reads own.events;
+      text = text;
+      last = reads_one own.events (ReadLine text);
+      number = numbered streams read own on;
+      unbroken = on.ledger.unbroken;
+      no_error = on.none_ends.no_error;
+      no_error_back = ap (list_any (is_error side.Dest read)) (same_gots own.events (ReadLine text) refl) ∙ on.none_ends.no_error_back;
+      come_back = each_one (ComesBack read) [] own.events (ReadLine text) on.none_ends.come_back tt;
+    }
+      where
+        numbered : (streams : List ConfStream) (read : Reading) (own : Running) → IsOn w streams read own → length (reads (own.events ++ ReadLine text ∷ [])) ≡ MOST_LINES + 1
+        numbered streams read own on =
+            let next : length (reads (own.events ++ ReadLine text ∷ [])) ≡ length (reads own.events) + 1 = ap length (reads_one own.events (ReadLine text)) ∙ length-append (reads own.events) (text ∷ []) in
+            let number = few_lines (ids_of streams) w streams read own on in
+            let few = on.few_lines in
+            omega (arith, next, number, few, many)
 
     refused : (call : Call) (streams : List ConfStream) (read : Reading) (here : Place) (said : List (List ℕ)) → Stands w call streams read here said → is_refused here.standing text ≡ true
     refused call streams read here said stands = or_right (nat_lt LONGEST_LINE (length text)) (nat_lt MOST_LINES (length (reads_in here.standing.sync.attempt) + 1))
@@ -388,9 +424,9 @@ line_ends_way end w now text old new desk_old desk_new readable added grew is = 
 -- ---- polls that bring no line
 
 -- a line was too long
-pub too_long_way : (line : ℕ) (w : Worker) (old new : Seen) (desk : DeskSeen) → w.read_over ≡ false → line ≡ min (w.ledger.lines + 1) (2 ^ 64 - 1) → own_events new ≡ own_events old → Grew old new → new.face.source_poll ≡ kind.TooLong
+pub too_long_way : (line : ℕ) (w : Worker) (old new : Seen) (desk : DeskSeen) → HasCode w new.face → line ≡ min (w.ledger.lines + 1) (2 ^ 64 - 1) → own_events new ≡ own_events old → Grew old new → new.face.source_poll ≡ kind.TooLong
     → Ran (Stands w) (Ends (status.SourceBreach breach.TooLong line) new.face w) old new desk desk
-too_long_way line w old new desk going number same grew long = ends_way (status.SourceBreach breach.TooLong line) w old new desk going same grew
+too_long_way line w old new desk code number same grew long = ends_way (status.SourceBreach breach.TooLong line) w old new desk code same grew
     (λ streams read own on. inr (refl, (long, at streams read own on), clean w streams read own on))
   where
     at : (streams : List ConfStream) (read : Reading) (own : Running) → IsOn w streams read own → line ≡ length (reads own.events) + 1
@@ -399,16 +435,29 @@ too_long_way line w old new desk going number same grew long = ends_way (status.
         let few = on.few_lines in
         omega (arith, number, lines, few)
 
-pub failed_way : (w : Worker) (old new : Seen) (desk : DeskSeen) → w.read_over ≡ false → own_events new ≡ own_events old → Grew old new → Ran (Stands w) (Ends status.LinkFault new.face w) old new desk desk
-failed_way w old new desk going same grew = ends_way status.LinkFault w old new desk going same grew (λ streams read own on. clean w streams read own on)
+-- An attempt does not go through while its input is open or the destination's output goes on.
+abbrev pub Unfinished : Worker → Type 0
+Unfinished w = (streams : List ConfStream) (read : Reading) (own : Running) → IsOn w streams read own → IsThrough (ids_of streams) read own.events → ⊥
 
-pub lacked_way : (w : Worker) (old new : Seen) (desk : DeskSeen) → w.read_over ≡ false → own_events new ≡ own_events old → Grew old new → Ran (Stands w) (Ends status.NoMemory new.face w) old new desk desk
-lacked_way w old new desk going same grew = ends_way status.NoMemory w old new desk going same grew (λ streams read own on. tt)
+pub unfinished_open : (w : Worker) → w.closed ≡ false → Unfinished w
+unfinished_open w opened streams read own on through = false≢true (sym (on.closed ∙ opened) ∙ (ap (list_any is_closed) through.closes ∙ any_back is_closed through.front (Closed ∷ through.back) refl))
+
+pub unfinished_going : (w : Worker) → w.got_over ≡ false → Unfinished w
+unfinished_going w going streams read own on through = false≢true (sym (on.got_so ∙ going) ∙ (ap got_over through.closes
+    ∙ (fold-append got_over_after false through.front (Closed ∷ through.back) ∙ got_more false (got_over through.front) through.back (λ some. absurd (false≢true some)) through.got_all)))
+
+pub failed_way : (w : Worker) (old new : Seen) (desk : DeskSeen) → Unfinished w → HasCode w new.face → own_events new ≡ own_events old → Grew old new → Ran (Stands w) (Ends status.LinkFault new.face w) old new desk desk
+failed_way w old new desk unfinished code same grew = ends_way status.LinkFault w old new desk code same grew (λ streams read own on. (clean w streams read own on, λ through. absurd (unfinished streams read own on through)))
+
+pub lacked_way : (w : Worker) (old new : Seen) (desk : DeskSeen) → HasCode w new.face → own_events new ≡ own_events old → Grew old new → Ran (Stands w) (Ends status.NoMemory new.face w) old new desk desk
+lacked_way w old new desk code same grew = ends_way status.NoMemory w old new desk code same grew (λ streams read own on. tt)
 
 -- ---- causes
 
 pub line_cause : (end : Status) (w now : Worker) (text : List ℕ) (old new : Seen) (desk_old desk_new : DeskSeen) → LineEnds end w text now desk_old desk_new → TurnCause end old new desk_old desk_new
 line_cause status.SayFault w now text old new desk_old desk_new is = is.said.rose
-line_cause status.LinkFault w now text old new desk_old desk_new is = absurd is
-line_cause status.StateFault w now text old new desk_old desk_new is = absurd is
-line_cause end w now text old new desk_old desk_new is = tt
+line_cause (status.SourceBreach why line) w now text old new desk_old desk_new is = tt
+line_cause (status.ConfigError side.Source line) w now text old new desk_old desk_new is = tt
+line_cause status.TooManyLines w now text old new desk_old desk_new is = tt
+line_cause status.NoMemory w now text old new desk_old desk_new is = tt
+line_cause end w now text old new desk_old desk_new is = absurd is

@@ -27,13 +27,13 @@ use Rattle.attempt_turns.specs.History.{Ran}
 use Rattle.attempt_turns.specs.Heard.{HeardSource}
 use Rattle.attempt_turns.specs.Worker.{ComesBack, IsOn, IsReadable, Live, Stands, is_error, left_to_give, source_held, untold_from}
 use Rattle.attempt_turns.specs.declared.worker.Worker.{Worker}
-use Rattle.attempt_turns.proofs.Lists.{any_one, each_one, got_over_one, read_over_one, same_gives, same_gots, same_reads}
+use Rattle.attempt_turns.proofs.Lists.{any_one, each_one, got_over_one, read_over_one, reading_one, same_gives, same_gots, same_reads}
 use Rattle.attempt_turns.proofs.ReadLemmas.{no_completions, none_left, runs_on}
 use Rattle.attempt_turns.proofs.EndLemmas.{desk_same, none_said}
 
 -- ---- the end is told
 
-first_end : (told : Option (List Event)) (over : Bool) → over ≡ false → IfSome told (λ events. read_over events ≡ over) → told_by (λ events. cond (read_over events) [] (ReadEnd ∷ [])) told ≡ told_more (ReadEnd ∷ []) told
+pub first_end : (told : Option (List Event)) (over : Bool) → over ≡ false → IfSome told (λ events. read_over events ≡ over) → told_by (λ events. cond (read_over events) [] (ReadEnd ∷ [])) told ≡ told_more (ReadEnd ∷ []) told
 first_end None over going is = refl
 first_end (Some events) over going is = ap (λ b. Some (events ++ cond b [] (ReadEnd ∷ []))) (is ∙ going)
 
@@ -62,6 +62,7 @@ on_end w streams read own readable on =
     let none = on.reads_first readable.going in
     record {
       orderly = on.orderly;
+      reading = reading_one read events ReadEnd on.reading tt;
       ledger = goes_on ids own.start read events (source_held w) w.ledger ReadEnd (record { none_read = refl; none_given = refl; none_got = refl }) on.ledger;
       start = on.start;
       kept = on.kept;
@@ -111,94 +112,3 @@ end_way w old new desk readable live added grew = record {
     },
   );
 }
-
--- ---- the link behind a poll
-
-pub told_read : (told : Option (List Event)) (event : Event) (over : Bool) → ((b : Bool) → read_over_after b event ≡ b) → IfSome told (λ events. read_over events ≡ over) → IfSome (told_more (event ∷ []) told) (λ events. read_over events ≡ over)
-told_read None event over same is = tt
-told_read (Some events) event over same is = read_over_one events event ∙ (same (read_over events) ∙ is)
-
-pub told_got : (told : Option (List Event)) (event : Event) (over : Bool) → ((b : Bool) → got_over_after b event ≡ b) → IfSome told (λ events. got_over events ≡ over) → IfSome (told_more (event ∷ []) told) (λ events. got_over events ≡ over)
-told_got None event over same is = tt
-told_got (Some events) event over same is = got_over_one events event ∙ (same (got_over events) ∙ is)
-
-told_over : (told : Option (List Event)) → IfSome (told_more (ReadEnd ∷ []) told) (λ events. read_over events ≡ true)
-told_over None = tt
-told_over (Some events) = read_over_one events ReadEnd
-
-abbrev pub polled_face : LinkFace → PollKind → LinkFace
-polled_face face last = record face { source_poll = last }
-
-line_kind : kind.Line ≡ kind.TooLong → ⊥
-line_kind e = cc
-
-torn_kind : kind.Torn ≡ kind.TooLong → ⊥
-torn_kind e = cc
-
-other_kind : kind.Other ≡ kind.TooLong → ⊥
-other_kind e = cc
-
--- the worker has the same but for its ledger and the line that it holds
-pub record SameRun (w now : Worker) : Type 0 where
-  pub closed : now.closed ≡ w.closed
-  pub read_over : now.read_over ≡ w.read_over
-  pub got_over : now.got_over ≡ w.got_over
-  pub is_completing : now.is_completing ≡ w.is_completing
-  pub completed : now.completed ≡ w.completed
-
-same_run : (w now : Worker) (text : List ℕ) (old new : DeskSeen) → HeardSource w text now old new → SameRun w now
-same_run w now text old new is = record {
-  closed = ap (λ (it : Worker). it.closed) is.heard.is;
-  read_over = ap (λ (it : Worker). it.read_over) is.heard.is;
-  got_over = ap (λ (it : Worker). it.got_over) is.heard.is;
-  is_completing = ap (λ (it : Worker). it.is_completing) is.heard.is;
-  completed = ap (λ (it : Worker). it.completed) is.heard.is;
-}
-
-live_line : (w now : Worker) (text : List ℕ) (last : PollKind) (old new : Seen) → (last ≡ kind.TooLong → ⊥) → SameRun w now → IsReadable w → Live w old → new.face ≡ polled_face old.face last → own_events new ≡ told_more (ReadLine text ∷ []) (own_events old) → Live now new
-live_line w now text last old new short same readable live face added = record {
-  running = subst (λ (it : LinkFace). IsTrue it.running) (sym face) live.running;
-  input_open = λ opened. subst (λ (it : LinkFace). IsTrue it.input_open) (sym face) (live.input_open (sym same.closed ∙ opened));
-  read_told = subst (λ told. IfSome told (λ events. read_over events ≡ now.read_over)) (sym added) (subst (λ b. IfSome (told_more (ReadLine text ∷ []) (own_events old)) (λ events. read_over events ≡ b)) (sym same.read_over) (told_read (own_events old) (ReadLine text) w.read_over (λ b. refl) live.read_told));
-  got_told = subst (λ told. IfSome told (λ events. got_over events ≡ now.got_over)) (sym added) (subst (λ b. IfSome (told_more (ReadLine text ∷ []) (own_events old)) (λ events. got_over events ≡ b)) (sym same.got_over) (told_got (own_events old) (ReadLine text) w.got_over (λ b. refl) live.got_told));
-  source_short = λ long. short (sym (ap (λ (it : LinkFace). it.source_poll) face) ∙ long);
-  dest_short = λ long. live.dest_short (sym (ap (λ (it : LinkFace). it.dest_poll) face) ∙ long);
-  completed = λ some. ap (λ (it : LinkFace). it.codes.source) face ∙ live.completed (before some);
-  all_completed = λ closed code. absurd (false≢true (sym readable.opened ∙ (sym same.closed ∙ closed)));
-}
-  where
-    before : (now.is_completing ≡ true) ⊎ (0 < now.completed) → (w.is_completing ≡ true) ⊎ (0 < w.completed)
-    before (inl is) = inl (sym same.is_completing ∙ is)
-    before (inr some) = inr (subst (λ (n : ℕ). 0 < n) same.completed some)
-
-pub live_read : (w now : Worker) (text : List ℕ) (old new : Seen) (desk_old desk_new : DeskSeen) → IsReadable w → Live w old → HeardSource w text now desk_old desk_new → new.face ≡ polled_face old.face kind.Line → own_events new ≡ told_more (ReadLine text ∷ []) (own_events old) → Live now new
-live_read w now text old new desk_old desk_new readable live heard_is face added = live_line w now text kind.Line old new line_kind (same_run w now text desk_old desk_new heard_is) readable live face added
-
-pub live_torn : (w now : Worker) (text : List ℕ) (old new : Seen) (desk_old desk_new : DeskSeen) → IsReadable w → Live w old → HeardSource w text now desk_old desk_new → new.face ≡ polled_face old.face kind.Torn → own_events new ≡ told_more (ReadLine text ∷ []) (own_events old) → Live now new
-live_torn w now text old new desk_old desk_new readable live heard_is face added = live_line w now text kind.Torn old new torn_kind (same_run w now text desk_old desk_new heard_is) readable live face added
-
-pub live_quiet : (w : Worker) (old new : Seen) → Live w old → new.face ≡ polled_face old.face kind.Other → own_events new ≡ own_events old → Live w new
-live_quiet w old new live face same = record {
-  running = subst (λ (it : LinkFace). IsTrue it.running) (sym face) live.running;
-  input_open = λ opened. subst (λ (it : LinkFace). IsTrue it.input_open) (sym face) (live.input_open opened);
-  read_told = subst (λ told. IfSome told (λ events. read_over events ≡ w.read_over)) (sym same) live.read_told;
-  got_told = subst (λ told. IfSome told (λ events. got_over events ≡ w.got_over)) (sym same) live.got_told;
-  source_short = λ long. other_kind (sym (ap (λ (it : LinkFace). it.source_poll) face) ∙ long);
-  dest_short = λ long. live.dest_short (sym (ap (λ (it : LinkFace). it.dest_poll) face) ∙ long);
-  completed = λ some. ap (λ (it : LinkFace). it.codes.source) face ∙ live.completed some;
-  all_completed = λ closed code. live.all_completed closed (sym (ap (λ (it : LinkFace). it.codes.source) face) ∙ code);
-}
-
-pub live_end : (w : Worker) (old new : Seen) → IsReadable w → Live w old → new.face ≡ polled_face old.face kind.Other → own_events new ≡ told_by (λ events. cond (read_over events) [] (ReadEnd ∷ [])) (own_events old) → Live (over_worker w) new
-live_end w old new readable live face added =
-    let told : own_events new ≡ told_more (ReadEnd ∷ []) (own_events old) = added ∙ first_end (own_events old) w.read_over readable.going live.read_told in
-    record {
-      running = subst (λ (it : LinkFace). IsTrue it.running) (sym face) live.running;
-      input_open = λ opened. subst (λ (it : LinkFace). IsTrue it.input_open) (sym face) (live.input_open opened);
-      read_told = subst (λ it. IfSome it (λ events. read_over events ≡ true)) (sym told) (told_over (own_events old));
-      got_told = subst (λ it. IfSome it (λ events. got_over events ≡ w.got_over)) (sym told) (told_got (own_events old) ReadEnd w.got_over (λ b. refl) live.got_told);
-      source_short = λ long. other_kind (sym (ap (λ (it : LinkFace). it.source_poll) face) ∙ long);
-      dest_short = λ long. live.dest_short (sym (ap (λ (it : LinkFace). it.dest_poll) face) ∙ long);
-      completed = λ some. ap (λ (it : LinkFace). it.codes.source) face ∙ live.completed some;
-      all_completed = λ closed code. absurd (false≢true (sym readable.opened ∙ closed));
-    }

@@ -12,7 +12,7 @@ use Rattle.outside.specs.declared.event.Event.TheVariants.{Given}
 use Rattle.outside.specs.declared.faults.Side.TheVariants as side
 use Rattle.catalog.specs.Reading.{ids_of}
 use Rattle.catalog.specs.declared.stream.ConfStream.{ConfStream}
-use Rattle.load_rules.specs.Lines.{Reading, lines_read, passes}
+use Rattle.load_rules.specs.Lines.{Reading, ReadsText, lines_read, passes}
 use Rattle.load_rules.specs.Finished.{last_status}
 use Rattle.load_rules.specs.Attempts.{gives, passed, reads}
 use Rattle.load_rules.specs.Engine.{is_closed, is_ended}
@@ -31,16 +31,13 @@ use Rattle.sync_rules.specs.Calls.{Call}
 use Rattle.attempt_turns.specs.Acts.{Place, does, place_after}
 use Rattle.attempt_turns.specs.Ends.{CanStop, Ends, EndsSo}
 use Rattle.attempt_turns.specs.History.{Ran}
-use Rattle.attempt_turns.proofs.EndOfOutput.{told_got, told_read}
+use Rattle.attempt_turns.proofs.LiveLemmas.{given_worker}
 use Rattle.attempt_turns.specs.Worker.{ComesBack, IsOn, Live, Stands, is_error, left_to_give}
 use Rattle.attempt_turns.specs.declared.worker.Worker.{Worker}
-use Rattle.attempt_turns.proofs.Lists.{any_one, each_one, gives_one, got_over_one, read_over_one, same_gots, same_reads}
+use Rattle.attempt_turns.proofs.Lists.{any_one, each_one, gives_one, got_over_one, read_over_one, reading_one, same_gots, same_reads}
 use Rattle.attempt_turns.proofs.ReadLemmas.{not_completing}
-use Rattle.attempt_turns.proofs.EndLemmas.{clean, desk_same, ends_here, given_front, no_events, none_said, stays_way}
+use Rattle.attempt_turns.proofs.EndLemmas.{coded, desk_same, failed_way, lacked_way, none_said, stays_way, unfinished_open}
 use Rattle.attempt_turns.proofs.Ways.{grew_none}
-
-abbrev pub given_worker : Worker → Worker
-given_worker w = record w { ledger = gave w.ledger; held = None }
 
 -- what is to be given is the same, and the line is no more held
 give_next : (ids : List StreamId) (read : Reading) (w : Worker) (own : Running) (text : List ℕ) → w.held ≡ Some text → to_give ids read own.events ≡ (gives own.events ++ option_to_list w.held) ++ left_to_give w ids read own.events
@@ -56,12 +53,13 @@ give_next ids read w own text held before =
     ∙ (ap (λ list. list ++ left_to_give w ids read events) (ap (λ it. gives events ++ option_to_list it) held ∙ (sym (gives_one events (Given text)) ∙ sym (append-nil (gives next))))
     ∙ ap (λ list. (gives next ++ []) ++ cond w.read_over (map completion (filter (λ id. is_none (last_status id (lines_read read list))) (drop w.completed ids))) []) (sym same))))
 
-gives_on : (w : Worker) (streams : List ConfStream) (read : Reading) (own : Running) (text : List ℕ) → w.held ≡ Some text → w.is_completing ≡ false → w.closed ≡ false → IsOn w streams read own → IsOn (given_worker w) streams read (and_event (Given text) own)
-gives_on w streams read own text held own_line opened on =
+gives_on : (w : Worker) (streams : List ConfStream) (read : Reading) (own : Running) (text : List ℕ) → ReadsText read text → w.held ≡ Some text → w.is_completing ≡ false → w.closed ≡ false → IsOn w streams read own → IsOn (given_worker w) streams read (and_event (Given text) own)
+gives_on w streams read own text right held own_line opened on =
     let ids = ids_of streams in
     let events = own.events in
     record {
       orderly = on.orderly;
+      reading = reading_one read events (Given text) on.reading right;
       ledger = subst (λ line. IsLedgerOf ids own.start read (events ++ Given text ∷ []) line (gave w.ledger)) (sym (not_completing w None own_line))
           (ledger_gives ids own.start read events w.ledger text (subst (λ line. IsLedgerOf ids own.start read events line w.ledger) (not_completing w w.held own_line ∙ held) on.ledger));
       start = on.start;
@@ -116,7 +114,7 @@ gives_way w text old new desk held own_line opened added grew = record {
       is_last = record { begun = stands.is_last.begun; number = stands.is_last.number; positive = stands.is_last.positive; ended = stands.is_last.ended; works = stands.is_last.works };
       attempt = and_event (Given text) stands.attempt;
       runs = ap (option_map (and_event (Given text))) stands.runs;
-      on = gives_on w streams read stands.attempt text held own_line opened stands.on;
+      on = gives_on w streams read stands.attempt text reading.0 held own_line opened stands.on;
       set = stands.set;
       none_owed = stands.none_owed;
       said_all = ap (λ list. list ++ []) stands.said_all;
@@ -126,62 +124,11 @@ gives_way w text old new desk held own_line opened added grew = record {
 
 -- ---- an offer that fails
 
-may_stop_by : (w : Worker) (call : Call) (streams : List ConfStream) (read : Reading) (face : LinkFace) (here : Place) (said : List (List ℕ)) → w.is_completing ≡ false → (0 < w.completed → face.codes.source ≡ Some (Code 0)) → Stands w call streams read here said → CanStop streams read face here
-may_stop_by w call streams read face here said own_line code stands = record { attempt = stands.attempt; runs = stands.runs; going = stands.on.going; rightly = at w.completed refl }
-  where
-    at : (n : ℕ) → w.completed ≡ n → IsPrefix (gives stands.attempt.events) (texts (passed (ids_of streams) read stands.attempt.events)) ⊎ (face.codes.source ≡ Some (Code 0))
-    at zero none = inl (given_front w streams read stands.attempt stands.on own_line none)
-    at (suc n) some = inr (code (omega (arith, some)))
+pub offer_failed : (w : Worker) (old new : Seen) (desk : DeskSeen) → w.closed ≡ false → Live w old → new.face ≡ old.face → own_events new ≡ own_events old → Grew old new → Ran (Stands w) (Ends status.LinkFault new.face w) old new desk desk
+offer_failed w old new desk opened live face same grew = failed_way w old new desk (unfinished_open w opened) (coded w old new live (ap (λ (it : LinkFace). it.codes.source) face)) same grew
 
-ends_offer : (end : Status) (w : Worker) (old new : Seen) (desk : DeskSeen) → w.is_completing ≡ false → Live w old → new.face ≡ old.face → own_events new ≡ own_events old → Grew old new
-    → ((streams : List ConfStream) (read : Reading) (own : Running) → IsOn w streams read own → EndsSo end (ids_of streams) read new.face own) → Ran (Stands w) (Ends end new.face w) old new desk desk
-ends_offer end w old new desk own_line live face same grew so = record {
-  acts = [];
-  lines = [];
-  added = no_events old new same;
-  said = none_said desk;
-  grew = grew;
-  desk = desk_same desk;
-  leads = λ call streams read here said reading stands. (
-    here,
-    refl,
-    subst (λ list. Ends end new.face w call streams read here list) (sym (append-nil said))
-        (ends_here end new.face w call streams read here said stands (so streams read stands.attempt stands.on)
-        (λ running. may_stop_by w call streams read new.face here said own_line (λ some. ap (λ (it : LinkFace). it.codes.source) face ∙ live.completed (inr some)) stands)),
-  );
-}
-
-pub offer_failed : (w : Worker) (old new : Seen) (desk : DeskSeen) → w.is_completing ≡ false → Live w old → new.face ≡ old.face → own_events new ≡ own_events old → Grew old new → Ran (Stands w) (Ends status.LinkFault new.face w) old new desk desk
-offer_failed w old new desk own_line live face same grew = ends_offer status.LinkFault w old new desk own_line live face same grew (λ streams read own on. clean w streams read own on)
-
-pub offer_lacked : (w : Worker) (old new : Seen) (desk : DeskSeen) → w.is_completing ≡ false → Live w old → new.face ≡ old.face → own_events new ≡ own_events old → Grew old new → Ran (Stands w) (Ends status.NoMemory new.face w) old new desk desk
-offer_lacked w old new desk own_line live face same grew = ends_offer status.NoMemory w old new desk own_line live face same grew (λ streams read own on. tt)
-
--- ---- the link behind an offer
-
-pub live_same : (w : Worker) (old new : Seen) → Live w old → new.face ≡ old.face → own_events new ≡ own_events old → Live w new
-live_same w old new live face same = record {
-  running = subst (λ (it : LinkFace). IsTrue it.running) (sym face) live.running;
-  input_open = λ opened. subst (λ (it : LinkFace). IsTrue it.input_open) (sym face) (live.input_open opened);
-  read_told = subst (λ told. IfSome told (λ events. read_over events ≡ w.read_over)) (sym same) live.read_told;
-  got_told = subst (λ told. IfSome told (λ events. got_over events ≡ w.got_over)) (sym same) live.got_told;
-  source_short = λ long. live.source_short (sym (ap (λ (it : LinkFace). it.source_poll) face) ∙ long);
-  dest_short = λ long. live.dest_short (sym (ap (λ (it : LinkFace). it.dest_poll) face) ∙ long);
-  completed = λ some. ap (λ (it : LinkFace). it.codes.source) face ∙ live.completed some;
-  all_completed = λ closed code. live.all_completed closed (sym (ap (λ (it : LinkFace). it.codes.source) face) ∙ code);
-}
-
-pub live_given : (w : Worker) (text : List ℕ) (old new : Seen) → w.closed ≡ false → Live w old → new.face ≡ old.face → own_events new ≡ told_more (Given text ∷ []) (own_events old) → Live (given_worker w) new
-live_given w text old new opened live face added = record {
-  running = subst (λ (it : LinkFace). IsTrue it.running) (sym face) live.running;
-  input_open = λ open_so. subst (λ (it : LinkFace). IsTrue it.input_open) (sym face) (live.input_open open_so);
-  read_told = subst (λ told. IfSome told (λ events. read_over events ≡ w.read_over)) (sym added) (told_read (own_events old) (Given text) w.read_over (λ b. refl) live.read_told);
-  got_told = subst (λ told. IfSome told (λ events. got_over events ≡ w.got_over)) (sym added) (told_got (own_events old) (Given text) w.got_over (λ b. refl) live.got_told);
-  source_short = λ long. live.source_short (sym (ap (λ (it : LinkFace). it.source_poll) face) ∙ long);
-  dest_short = λ long. live.dest_short (sym (ap (λ (it : LinkFace). it.dest_poll) face) ∙ long);
-  completed = λ some. ap (λ (it : LinkFace). it.codes.source) face ∙ live.completed some;
-  all_completed = λ closed code. absurd (false≢true (sym opened ∙ closed));
-}
+pub offer_lacked : (w : Worker) (old new : Seen) (desk : DeskSeen) → Live w old → new.face ≡ old.face → own_events new ≡ own_events old → Grew old new → Ran (Stands w) (Ends status.NoMemory new.face w) old new desk desk
+offer_lacked w old new desk live face same grew = lacked_way w old new desk (coded w old new live (ap (λ (it : LinkFace). it.codes.source) face)) same grew
 
 -- ---- for the function
 

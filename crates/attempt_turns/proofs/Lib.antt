@@ -3,5 +3,11 @@ pub mod Lists
 pub mod ReadLemmas
 pub mod EndLemmas
 pub mod EndOfOutput
+pub mod LiveLemmas
 pub mod GiveLemmas
+pub mod TakenLemmas
+pub mod PutLemmas
+pub mod BackLemmas
+pub mod BackEnds
+pub mod SaveLemmas
 pub mod Worked

@@ -52,7 +52,7 @@ use Rattle.attempt_turns.specs.History.{Leads, Ran}
 use Rattle.attempt_turns.specs.Heard.{GoesOn, HeardSource, lines_answered}
 use Rattle.attempt_turns.specs.Worker.{ComesBack, IsOn, IsReadable, Stands, is_error, is_error_told, is_error_saying, left_to_give, source_held, untold_from}
 use Rattle.attempt_turns.specs.declared.worker.Worker.{Worker}
-use Rattle.attempt_turns.proofs.Lists.{any_one, each_one, got_over_one, passed_one, read_over_one, reads_one, same_gives, same_gots}
+use Rattle.attempt_turns.proofs.Lists.{any_one, each_one, got_over_one, passed_one, read_over_one, reading_one, reads_one, same_gives, same_gots}
 
 -- ---- one answer
 
@@ -235,9 +235,9 @@ front_read ids read own text front =
 pub few_lines : (ids : List StreamId) (w : Worker) (streams : List ConfStream) (read : Reading) (own : Running) → IsOn w streams read own → length (reads own.events) ≡ w.ledger.lines
 few_lines ids w streams read own on = sym (on.ledger.heard.number ∙ length-map (reads own.events) (told_read read))
 
-on_read : (w : Worker) (streams : List ConfStream) (read : Reading) (own : Running) (text : List ℕ) (answer : Verdict) (ledger : Noted) → w.held ≡ None → w.read_over ≡ false → w.closed ≡ false → w.ledger.lines < MOST_LINES → GoesOn answer → Judged w read text answer ledger → IsOn w streams read own
+on_read : (w : Worker) (streams : List ConfStream) (read : Reading) (own : Running) (text : List ℕ) (answer : Verdict) (ledger : Noted) → ReadsText read text → w.held ≡ None → w.read_over ≡ false → w.closed ≡ false → w.ledger.lines < MOST_LINES → GoesOn answer → Judged w read text answer ledger → IsOn w streams read own
     → IsOn (heard_worker w ledger answer text) streams read (and_event (ReadLine text) own)
-on_read w streams read own text answer ledger empty going opened few goes by on =
+on_read w streams read own text answer ledger right empty going opened few goes by on =
     let ids = ids_of streams in
     let events = own.events in
     let next = events ++ ReadLine text ∷ [] in
@@ -248,6 +248,7 @@ on_read w streams read own text answer ledger empty going opened few goes by on 
     let gives_it = passes_on ids own.start read events (source_held w) w.ledger text answer on.ledger by.judged_is in
     record {
       orderly = on.orderly;
+      reading = reading_one read events (ReadLine text) on.reading right;
       ledger = subst (λ line. IsLedgerOf ids own.start read next line ledger) (sym (not_completing w (held_by answer text) completing)) (subst (IsLedgerOf ids own.start read next (held_by answer text)) (sym by.ledger_is) heard_is);
       start = on.start;
       kept = on.kept;
@@ -325,7 +326,7 @@ reads_way w now text old new desk_old desk_new readable added grew heard_is = re
             is_last = record { begun = stands.is_last.begun; number = stands.is_last.number; positive = stands.is_last.positive; ended = stands.is_last.ended; works = stands.is_last.works };
             attempt = and_event (ReadLine text) stands.attempt;
             runs = ap (option_map (and_event (ReadLine text))) stands.runs;
-            on = on_read w streams read stands.attempt text heard_is.answer now.ledger readable.empty readable.going readable.opened heard_is.heard.few heard_is.goes_on by stands.on;
+            on = on_read w streams read stands.attempt text heard_is.answer now.ledger reading.0 readable.empty readable.going readable.opened heard_is.heard.few heard_is.goes_on by stands.on;
             set = stands.set;
             none_owed = stands.none_owed;
             said_all = ap (λ list. list ++ lines_of read here.standing (ReadLine text)) stands.said_all

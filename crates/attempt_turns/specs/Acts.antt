@@ -108,8 +108,13 @@ IsInOrder here (event.Saved text) = MatchBool (begins_next here.standing.called 
 IsInOrder here (event.Started plan) = IsOpen here
 IsInOrder here event = here.standing.called.number ≡ here.ended + 1
 
+-- behind a state store that failed the end of the children alone is told
+abbrev pub Works : Place → Event → Type 0
+Works here (event.Ended codes) = Unit {0}
+Works here event = here.failed ≡ false
+
 pub record InOrder (here : Place) (event : Event) : Type 0 where
-  pub works : here.failed ≡ false
+  pub works : Works here event
   pub order : IsInOrder here event
 
 -- the ends of an attempt that could not be begun: its generations are spent, its set was not saved, or memory lacked

@@ -1,10 +1,10 @@
 -- How an attempt ends, and what is known then.
-use Rattle.std.specs.Prelude.{◌≡◌, ◌⊎◌, ℕ, ◌+◌, ◌<◌, ◌≤◌, ◌^◌, List, [], ◌∷◌, ◌++◌, Bool, true, false, is_some, length, slice_get, take, Option, None, Some}
+use Rattle.std.specs.Prelude.{◌≡◌, ◌⊎◌, ℕ, ◌+◌, ◌<◌, ◌≤◌, List, [], ◌∷◌, ◌++◌, Bool, true, false, is_some, length, option_to_list, slice_get, take, IsTrue, Option, None, Some}
 use Rattle.std.specs.List.{AllByRecursion, list_any}
 use Rattle.basics.specs.Told.{Rose}
 use Rattle.basics.specs.declared.stream.StreamId.{StreamId}
 use Rattle.outside.specs.Desk.{DeskSeen}
-use Rattle.outside.specs.Event.{got_over}
+use Rattle.outside.specs.Event.{got_over, read_over}
 use Rattle.outside.specs.Link.{Seen}
 use Rattle.outside.specs.declared.event.Event.{Event}
 use Rattle.outside.specs.declared.event.Event.TheVariants as event
@@ -27,7 +27,6 @@ use Rattle.airbyte_message.specs.declared.stream_status.StreamStatus.TheVariants
 use Rattle.attempt_loop.specs.Attempts.{is_retried}
 use Rattle.catalog.specs.Reading.{ids_of}
 use Rattle.catalog.specs.declared.stream.ConfStream.{ConfStream}
-use Rattle.catalog.specs.declared.stream.Gen.{Gen}
 use Rattle.load_rules.specs.Prefixes.{EachFits, IsPrefix}
 use Rattle.load_rules.specs.Lines.{Reading, line_read, lines_read, state_in}
 use Rattle.load_rules.specs.Finished.{last_status}
@@ -35,42 +34,15 @@ use Rattle.load_rules.specs.Attempts.{gives, gots, passed, reads}
 use Rattle.load_rules.specs.Engine.{is_closed, is_ended}
 use Rattle.sync_rules.specs.Breaches.{AreUnbroken, breach_of}
 use Rattle.sync_rules.specs.Calls.{Call, IsThrough, OwesNothing}
-use Rattle.sync_rules.specs.Generations.{Begins}
 use Rattle.sync_rules.specs.Sync.{Running, Takes, texts}
-use Rattle.attempt_turns.specs.Acts.{Place, CanBegin}
+use Rattle.sync_ledger.specs.declared.notes.TheConstants.{MOST_LINES}
+use Rattle.attempt_turns.specs.Acts.{Place}
 use Rattle.attempt_turns.specs.Silence.{Waited}
 use Rattle.attempt_turns.specs.Waits.{IsFirstWaiting}
 use Rattle.attempt_turns.specs.Worker.{ComesBack, NoneEnds, is_error}
 use Rattle.attempt_turns.specs.declared.worker.Moved.{Moved}
 use Rattle.attempt_turns.specs.declared.worker.Moved.TheVariants as moved
 use Rattle.attempt_turns.specs.declared.worker.Worker.{Worker}
-
--- ---- before a start
-
--- Between two attempts, of which so many have ended: the worker's set is the saved one, what was asked for is said, and nothing is owed
--- (but what an older call left).
-pub record Rests (number : ℕ) (w : Worker) (call : Call) (streams : List ConfStream) (read : Reading) (here : Place) (said : List (List ℕ)) : Type 0 where
-  pub begun : here.standing.called.begun ≡ number
-  pub started : here.standing.called.number ≤ number
-  pub ended : here.ended ≡ number
-  pub last : CanBegin here.last
-  pub works : here.failed ≡ false
-  pub set : here.standing.sync.set ≡ w.set
-  pub none_owed : (number ≡ 0) ⊎ (here.standing.sync.owed ≡ None)
-  pub said_all : here.asked ≡ said
-
--- a set was saved for the attempt with the worker's number
-pub record Begun (gens : List Gen) (w : Worker) (call : Call) (streams : List ConfStream) (read : Reading) (here : Place) (said : List (List ℕ)) : Type 0 where
-  pub begun : here.standing.called.begun ≡ w.number
-  pub started : here.standing.called.number < w.number
-  pub ended : here.ended + 1 ≡ w.number
-  pub works : here.failed ≡ false
-  pub within : w.number ≤ call.limit
-  pub saved : here.standing.sync.is_begun ≡ true
-  pub set : here.standing.sync.set ≡ w.set
-  pub begins : Begins streams here.standing.sync.previous gens w.set
-  pub none_owed : here.standing.sync.owed ≡ None
-  pub said_all : here.asked ≡ said
 
 -- ---- what an attempt's events say of its end
 
@@ -156,21 +128,35 @@ pub record IsFirstIncomplete (ids : List StreamId) (read : Reading) (events : Li
 pub record WentClean (ids : List StreamId) (read : Reading) (own : Running) : Type 0 where
   pub clean : IsClean ids read own
   pub through : IsThrough ids read own.events
+  pub few_read : length (reads own.events) ≤ MOST_LINES
+  pub few_got : length (gots own.events) ≤ MOST_LINES
 
--- What an attempt's events and the last polls say where it was started and ended so. Nothing meets an end that no attempt has.
+-- one line more was read than are taken, and none before it ended the attempt
+pub record TooManyRead (ids : List StreamId) (read : Reading) (own : Running) : Type 0 where
+  pub front : List (List ℕ)
+  pub text : List ℕ
+  pub last : reads own.events ≡ front ++ text ∷ []
+  pub number : length (reads own.events) ≡ MOST_LINES + 1
+  pub unbroken : AreUnbroken ids own.start (lines_read read front)
+  pub no_error : list_any (is_error side.Source read) front ≡ false
+  pub no_error_back : list_any (is_error side.Dest read) (gots own.events) ≡ false
+  pub come_back : EachFits (ComesBack read) [] own.events
+
+-- What an attempt's events and the last polls say where it was started and ended so. Nothing meets an end that no attempt has. Of several
+-- ends of an attempt that went through, the source's comes first: one of its streams is not complete; then the destination's.
 abbrev pub EndsSo : Status → List StreamId → Reading → LinkFace → Running → Type 0
 EndsSo status.Ok ids read face own = WentClean ids read own × AllComplete ids read own.events × IsFirstWaiting ids read own.events None
 EndsSo (status.SourceIncomplete stream) ids read face own = WentClean ids read own × IsFirstIncomplete ids read own.events stream
 EndsSo (status.DestUnechoed line) ids read face own = WentClean ids read own × AllComplete ids read own.events × IsFirstWaiting ids read own.events (Some line)
 EndsSo status.DestEarly ids read face own = IsClean ids read own × (got_over own.events ≡ true) × (list_any is_closed own.events ≡ false)
 EndsSo (status.SourceFailed exit) ids read face own = IsClean ids read own
-EndsSo (status.DestFailed exit) ids read face own = IsClean ids read own
-EndsSo status.LinkFault ids read face own = IsClean ids read own
+EndsSo (status.DestFailed exit) ids read face own = IsClean ids read own × (IsThrough ids read own.events → AllComplete ids read own.events)
+EndsSo status.LinkFault ids read face own = IsClean ids read own × (IsThrough ids read own.events → AllComplete ids read own.events × IsFirstWaiting ids read own.events None)
 EndsSo (status.Silent waits) ids read face own = IsClean ids read own
 EndsSo (status.SourceBreach why line) ids read face own = RefusesLast ids read own why line ⊎ ((why ≡ breach.TooLong) × TooLongAt face.source_poll (reads own.events) line × IsClean ids read own)
 EndsSo (status.DestBreach why line) ids read face own = RefusesBackLast ids read own why line ⊎ ((why ≡ breach.TooLong) × TooLongAt face.dest_poll (gots own.events) line × IsClean ids read own)
 EndsSo (status.ConfigError from line) ids read face own = ErrsSo from line ids read own
-EndsSo status.TooManyLines ids read face own = (length (reads own.events) ≡ 2 ^ 32) ⊎ (length (gots own.events) ≡ 2 ^ 32)
+EndsSo status.TooManyLines ids read face own = TooManyRead ids read own ⊎ ((length (gots own.events) ≡ MOST_LINES + 1) × IsClean ids read own)
 EndsSo status.StateFault ids read face own = Unit {0}
 EndsSo status.SayFault ids read face own = Unit {0}
 EndsSo status.NoMemory ids read face own = Unit {0}
@@ -195,22 +181,37 @@ SaidSo end asked said = asked ≡ said
 
 -- the end of the children may be told: where a completion was given, the source is known to have ended with code 0
 pub record CanStop (streams : List ConfStream) (read : Reading) (face : LinkFace) (here : Place) : Type 0 where
+  pub number : here.standing.called.number ≡ here.ended + 1
   pub attempt : Running
   pub runs : here.standing.sync.attempt ≡ Some attempt
   pub going : list_any is_ended attempt.events ≡ false
   pub rightly : IsPrefix (gives attempt.events) (texts (passed (ids_of streams) read attempt.events)) ⊎ (face.codes.source ≡ Some (Code 0))
 
--- An attempt has come to its end so, in front of `stop` and of its line.
+-- What a worker has of an attempt that has ended. (Where the destination's input could not be closed, it may be closed all the same.)
+pub record Knows (w : Worker) (ids : List StreamId) (read : Reading) (face : LinkFace) (own : Running) : Type 0 where
+  pub read_so : read_over own.events ≡ w.read_over
+  pub got_so : got_over own.events ≡ w.got_over
+  pub closed : w.closed ≡ true → list_any is_closed own.events ≡ true
+  pub opened : w.closed ≡ false → (w.got_over ≡ true) ⊎ IsTrue face.input_open → list_any is_closed own.events ≡ false
+  pub held : w.is_completing ≡ false → w.completed ≡ 0 → texts (passed ids read own.events) ≡ gives own.events ++ option_to_list w.held
+
+-- another attempt may follow, also where stopping fails
+abbrev pub is_again : Status → Bool
+is_again status.Ok = true
+is_again end = is_retried end
+
+-- An attempt that was begun has come to its end so, in front of `stop` and of its line.
 pub record Ends (end : Status) (face : LinkFace) (w : Worker) (call : Call) (streams : List ConfStream) (read : Reading) (here : Place) (said : List (List ℕ)) : Type 0 where
-  pub begun : is_retried end ≡ true → here.standing.called.begun ≡ w.number
+  pub begun : here.standing.called.begun ≡ w.number
   pub number : here.standing.called.number ≤ w.number
   pub ended : here.ended + 1 ≡ w.number
   pub failed : here.failed ≡ true → end ≡ status.StateFault
-  pub set : is_retried end ≡ true → here.standing.sync.set ≡ w.set
+  pub set : is_again end ≡ true → here.standing.sync.set ≡ w.set
   pub paid : OwesNothing end here.standing.sync
   pub so : here.standing.called.number ≡ w.number → (own : Running) × (here.standing.sync.attempt ≡ Some own) × EndsSo end (ids_of streams) read face own
+  pub knows : is_again end ≡ true → here.standing.called.number ≡ w.number → (own : Running) × (here.standing.sync.attempt ≡ Some own) × Knows w (ids_of streams) read face own
   pub unstarted : here.standing.called.number < w.number → EndsUnstarted end
-  pub can_stop : here.standing.called.number ≡ w.number → face.running ≡ true → CanStop streams read face here
+  pub can_stop : face.running ≡ true → CanStop streams read face here
   pub said_so : SaidSo end here.asked said
 
 -- ---- causes
@@ -243,15 +244,25 @@ Causes status.TooManyLines w from say now said = Unit {0}
 Causes status.NoMemory w from say now said = Unit {0}
 Causes end w from say now said = ⊥
 
--- Within a turn: where the link or the desk failed its count rose. (Each other end has its cause in what was read; the codes are looked
--- at behind it.)
+-- Within a turn: where the link or the desk failed its count rose. (Ends by a line have their cause in what was read, and want of memory
+-- is free; the codes are looked at behind the turn, so no end by them comes in it.)
 abbrev pub TurnCause : Status → Seen → Seen → DeskSeen → DeskSeen → Type 0
 TurnCause status.LinkFault old new desk_old desk_new = Rose old.counts.link_faults new.counts.link_faults
 TurnCause status.SayFault old new desk_old desk_new = Rose desk_old.say_faults desk_new.say_faults
 TurnCause status.StateFault old new desk_old desk_new = Rose old.counts.state_faults new.counts.state_faults
-TurnCause end old new desk_old desk_new = Unit {0}
+TurnCause (status.SourceBreach why line) old new desk_old desk_new = Unit {0}
+TurnCause (status.DestBreach why line) old new desk_old desk_new = Unit {0}
+TurnCause (status.ConfigError from line) old new desk_old desk_new = Unit {0}
+TurnCause status.TooManyLines old new desk_old desk_new = Unit {0}
+TurnCause status.NoMemory old new desk_old desk_new = Unit {0}
+TurnCause end old new desk_old desk_new = ⊥
 
 -- a step that brought nothing was quiet: the count of the source's quiet answers rose
 abbrev pub WasQuiet : Moved → Seen → Seen → Type 0
 WasQuiet moved.Yes old new = Unit {0}
 WasQuiet moved.No old new = Rose old.counts.quiet_source new.counts.quiet_source
+
+-- the same of the destination
+abbrev pub WasQuietBack : Moved → Seen → Seen → Type 0
+WasQuietBack moved.Yes old new = Unit {0}
+WasQuietBack moved.No old new = Rose old.counts.quiet_dest new.counts.quiet_dest

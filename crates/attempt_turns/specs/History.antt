@@ -34,3 +34,8 @@ pub record Ran (A B : State) (old new : Seen) (desk_old desk_new : DeskSeen) : T
   pub grew : Grew old new
   pub desk : KeepsDesk desk_old desk_new
   pub leads : Leads A B acts lines
+
+-- a way whose acts are so
+pub record RanSo (Are : List Act → Type 0) (A B : State) (old new : Seen) (desk_old desk_new : DeskSeen) : Type 0 where
+  pub ran : Ran A B old new desk_old desk_new
+  pub are : Are ran.acts

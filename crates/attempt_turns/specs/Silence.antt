@@ -1,13 +1,18 @@
 -- What a turn brings, and how silence is counted.
-use Rattle.std.specs.Prelude.{◌≡◌, ◌⊎◌, ℕ, List, fold, Bool, true, false, ◌&&◌, ◌||◌, not, is_none, is_some, if◌then◌else◌, Option, None, Some}
+use Rattle.std.specs.Prelude.{◌≡◌, ◌⊎◌, ℕ, ◌+◌, ◌-◌, ◌*◌, ◌<◌, List, [], fold, length, option_to_list, Bool, true, false, ◌&&◌, ◌||◌, not, is_none, is_some, if◌then◌else◌, Option, None, Some}
 use Rattle.std.specs.List.{list_any}
 use Rattle.basics.specs.Told.{RoseBy}
+use Rattle.outside.specs.Desk.{DeskSeen}
 use Rattle.outside.specs.Link.{Seen, Told}
 use Rattle.outside.specs.declared.event.Codes.{Codes}
 use Rattle.outside.specs.declared.event.Event.{Event}
 use Rattle.outside.specs.declared.event.Event.TheVariants as event
 use Rattle.outside.specs.declared.link.LinkCounts.{LinkCounts}
+use Rattle.sync_ledger.specs.declared.notes.TheConstants.{MOST_LINES}
 use Rattle.attempt_turns.specs.Acts.{Act, events_in}
+use Rattle.attempt_turns.specs.History.{RanSo, State}
+use Rattle.attempt_turns.specs.declared.worker.Moved.{Moved}
+use Rattle.attempt_turns.specs.declared.worker.Moved.TheVariants as moved
 use Rattle.attempt_turns.specs.declared.worker.Worker.{Worker}
 
 -- the events from which silence is counted anew, and those that a turn brings
@@ -33,6 +38,30 @@ Learned old now = ((old.source ≡ None) × (is_some now.source ≡ true)) ⊎ (
 -- what a turn that moved has to show
 abbrev pub Brought : List Act → Codes → Codes → Type 0
 Brought acts old now = (list_any brings (events_in acts) ≡ true) ⊎ Learned old now
+
+-- What a step shows by its acts: where it moved what it brought, and where it did not that nothing was told.
+abbrev pub Shows : Moved → Seen → Seen → List Act → Type 0
+Shows moved.Yes old new acts = Brought acts old.face.codes new.face.codes
+Shows moved.No old new acts = events_in acts ≡ []
+
+abbrev pub Steps : Moved → State → State → Seen → Seen → DeskSeen → DeskSeen → Type 0
+Steps moved A B old new desk_old desk_new = RanSo (Shows moved old new) A B old new desk_old desk_new
+
+-- a step that did not move leaves its worker as it was
+abbrev pub Rested : Moved → Worker → Worker → Type 0
+Rested moved.Yes old new = Unit {0}
+Rested moved.No old new = new ≡ old
+
+-- How many steps of an attempt can still move: each line is read once and given once at most, each line comes back once, and each output
+-- ends once.
+abbrev pub left : Worker → ℕ
+left w =
+    2 * (MOST_LINES - w.ledger.lines) + (MOST_LINES + 1 - w.got_lines) + length (option_to_list w.held)
+    + (if w.read_over then 0 else 1) + (if w.got_over then 0 else 1)
+
+abbrev pub Fewer : Moved → Worker → Worker → Type 0
+Fewer moved.Yes old new = left new < left old
+Fewer moved.No old new = Unit {0}
 
 -- Which counts are named in a row of quiet turns: of the source, while its output or a line for the destination is waited for; of codes,
 -- where an output has ended whose code is unknown.

@@ -10,13 +10,14 @@ use Rattle.outside.specs.declared.event.Event.TheVariants as event
 use Rattle.outside.specs.declared.event.Exit.TheVariants.{Code}
 use Rattle.outside.specs.declared.faults.Side.{Side}
 use Rattle.outside.specs.declared.faults.Side.TheVariants as side
+use Rattle.outside.specs.declared.link.LinkFace.{LinkFace}
 use Rattle.outside.specs.declared.link.PollKind.TheVariants as kind
 use Rattle.airbyte_message.specs.Messages.{IsMessage}
 use Rattle.airbyte_message.specs.State.{State as StateMsg}
 use Rattle.catalog.specs.Reading.{ids_of}
 use Rattle.catalog.specs.declared.stream.ConfStream.{ConfStream}
 use Rattle.load_rules.specs.Prefixes.{EachFits}
-use Rattle.load_rules.specs.Lines.{Reading, lines_read, state_in}
+use Rattle.load_rules.specs.Lines.{IsReading, Reading, lines_read, state_in}
 use Rattle.load_rules.specs.Taken.{LaneState, states}
 use Rattle.load_rules.specs.Finished.{last_status}
 use Rattle.load_rules.specs.Attempts.{gives, gots, passed, reads}
@@ -103,6 +104,7 @@ pub record NoneEnds (read : Reading) (events : List Event) : Type 0 where
 -- an attempt goes on, and this is what the worker has of it
 pub record IsOn (w : Worker) (streams : List ConfStream) (read : Reading) (own : Running) : Type 0 where
   pub orderly : AreOrderly streams
+  pub reading : IsReading read own.events
   pub ledger : IsLedgerOf (ids_of streams) own.start read own.events (source_held w) w.ledger
   pub start : IsSaved own.start
   pub kept : generations_in w.set ≡ generations_in own.start
@@ -172,9 +174,13 @@ pub record Owes (taken : StateMsg) (w : Worker) (call : Call) (streams : List Co
 abbrev pub HasToSay : List ℕ → State → State
 HasToSay line Then call streams read here said = (here.asked ≡ said ++ line ∷ []) × Then call streams read here (said ++ line ∷ [])
 
+-- a completion is made only where the source is known to have ended with code 0
+abbrev pub HasCode : Worker → LinkFace → Type 0
+HasCode w face = (w.is_completing ≡ true) ⊎ (0 < w.completed) → face.codes.source ≡ Some (Code 0)
+
 -- What holds of the link between two lines: it runs, its input is open until the worker closes it, its told trace has ended as the worker
--- knows, no line was too long at the last poll; a completion is made only where the source is known to have ended with code 0, and the
--- input is closed then only behind the last.
+-- knows, no line was too long at the last poll, at most one line too many came back; and the input is closed behind code 0 only behind the
+-- last completion.
 pub record Live (w : Worker) (seen : Seen) : Type 0 where
   pub running : IsTrue seen.face.running
   pub input_open : w.closed ≡ false → IsTrue seen.face.input_open
@@ -182,7 +188,9 @@ pub record Live (w : Worker) (seen : Seen) : Type 0 where
   pub got_told : IfSome (own_events seen) (λ events. got_over events ≡ w.got_over)
   pub source_short : ¬ (seen.face.source_poll ≡ kind.TooLong)
   pub dest_short : ¬ (seen.face.dest_poll ≡ kind.TooLong)
-  pub completed : (w.is_completing ≡ true) ⊎ (0 < w.completed) → seen.face.codes.source ≡ Some (Code 0)
+  pub few_got : w.got_lines ≤ MOST_LINES + 1
+  pub few_over : w.got_over ≡ true → w.got_lines ≤ MOST_LINES
+  pub completed : HasCode w seen.face
   pub all_completed : w.closed ≡ true → seen.face.codes.source ≡ Some (Code 0) → (w.held ≡ None) × (length w.ledger.ids ≤ w.completed)
 
 -- the source may be polled: no line is held, and neither its output has ended nor the destination's input

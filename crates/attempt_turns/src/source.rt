@@ -3,6 +3,7 @@ ghost use Rattle.std.specs.Prelude.{◌≡◌, None, IfErr, IfOk, OnErr, OnOk};
 ghost use Rattle.attempt_turns.specs.Ends.{Ends, TurnCause, WasQuiet};
 ghost use Rattle.attempt_turns.specs.Heard.{HeardSource, HearsSource, LineEnds, RefusedSource};
 ghost use Rattle.attempt_turns.specs.History.{Ran};
+ghost use Rattle.attempt_turns.specs.Silence.{Fewer, Rested, Steps};
 ghost use Rattle.attempt_turns.specs.Worker.{IsReadable, Live, Stands};
 
 use crate::{Moved, Worker, say_line};
@@ -41,6 +42,8 @@ fn take_read<K: Desk>(desk: &mut K, w: &mut Worker, line: Bytes) -> Result<(), S
     requires { w.old.held ≡ None }
     ensures ok { OnOk result (HeardSource w.old line w.new (K.seen desk.old) (K.seen desk.new)) }
     ensures err { IfErr result (λ end. LineEnds end w.old line w.new (K.seen desk.old) (K.seen desk.new)) }
+    ensures kept { w.new ≡ record (w.old) { ledger = w.new.ledger; held = w.new.held } }
+    ensures ids { w.new.ledger.ids ≡ w.old.ledger.ids }
 {
     match hear_source(w, line) {
         Ok(Verdict::Give) => Ok(()),
@@ -65,11 +68,17 @@ pub fn read_source<K: Desk, L: Link>(
 ) -> Result<Moved, Status>
     requires readable { IsReadable w.old }
     requires live { Live w.old (L.seen link.old) }
-    ensures ok { OnOk result (Ran (Stands w.old) (Stands w.new) (L.seen link.old) (L.seen link.new) (K.seen desk.old) (K.seen desk.new)) }
+    ensures ok { IfOk result (λ moved. Steps moved (Stands w.old) (Stands w.new) (L.seen link.old) (L.seen link.new) (K.seen desk.old) (K.seen desk.new)) }
     ensures live { OnOk result (Live w.new (L.seen link.new)) }
     ensures err { IfErr result (λ end. Ran (Stands w.old) (Ends end (L.seen link.new).face w.new) (L.seen link.old) (L.seen link.new) (K.seen desk.old) (K.seen desk.new)) }
     ensures cause { IfErr result (λ end. TurnCause end (L.seen link.old) (L.seen link.new) (K.seen desk.old) (K.seen desk.new)) }
     ensures quiet { IfOk result (λ moved. WasQuiet moved (L.seen link.old) (L.seen link.new)) }
+    ensures rested { IfOk result (λ moved. Rested moved w.old w.new) }
+    ensures fewer { IfOk result (λ moved. Fewer moved w.old w.new) }
+    ensures kept { w.new ≡ record (w.old) { ledger = w.new.ledger; held = w.new.held; read_over = w.new.read_over } }
+    ensures ids { w.new.ledger.ids ≡ w.old.ledger.ids }
+    ensures codes { (L.seen link.new).face.codes ≡ (L.seen link.old).face.codes }
+    ensures running { (L.seen link.new).face.running ≡ (L.seen link.old).face.running }
 {
     match link.poll_source() {
         Polled::Line(line) => match take_read(desk, w, line) {
