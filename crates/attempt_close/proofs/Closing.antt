@@ -27,15 +27,16 @@ use Rattle.sync_rules.specs.Sync.{Running, and_event, completion, texts, to_give
 use Rattle.sync_ledger.specs.declared.notes.TheConstants.{MOST_LINES}
 use Rattle.ledger_rules.proofs.Stands.{goes_on}
 use Rattle.attempt_turns.specs.Acts.{Place, does, place_after}
-use Rattle.attempt_turns.specs.Ends.{Ends, IsClean}
+use Rattle.attempt_turns.specs.Ends.{Ends, Knows}
 use Rattle.attempt_turns.specs.History.{Ran}
 use Rattle.attempt_turns.specs.Worker.{ClosedBehind, ComesBack, HasCode, IsOn, Live, NoneEnds, Stands, is_error, left_to_give, source_held}
 use Rattle.attempt_turns.specs.declared.worker.Worker.{Worker}
 use Rattle.attempt_turns.proofs.Lists.{any_one, each_one, got_over_one, read_over_one, reading_one, same_gives, same_gots, same_reads}
-use Rattle.attempt_turns.proofs.EndLemmas.{clean, desk_same, none_said}
+use Rattle.attempt_turns.proofs.EndLemmas.{clean, desk_same, failed_way, none_said, unfinished_going}
 use Rattle.attempt_turns.proofs.LiveLemmas.{told_got, told_read}
+use Rattle.attempt_turns.proofs.Placed.{placed_on}
 use Rattle.attempt_turns.proofs.Ways.{grew_none, ran_then}
-use Rattle.attempt_close.proofs.Ways.{ends_at, fault_way, idle_way}
+use Rattle.attempt_close.proofs.Ways.{ends_at, idle_way}
 
 abbrev pub closed_worker : Worker → Worker
 closed_worker w = record w { closed = true }
@@ -95,6 +96,7 @@ on_closed w over going opened streams read own on =
       read_so = read_over_one events Closed ∙ on.read_so;
       got_so = got_over_one events Closed ∙ on.got_so;
       few_lines = subst (λ list. length list ≤ MOST_LINES) (sym (same_reads events Closed refl)) on.few_lines;
+      placed = placed_on ids read events (source_held w) w.ledger own.start Closed refl refl (goes_on ids own.start read events (source_held w) w.ledger Closed (record { none_read = refl; none_given = refl; none_got = refl }) on.ledger) on.placed;
       got_lines = on.got_lines ∙ ap length (sym (same_gots events Closed refl));
       gives_next = same_next w ids read own on.gives_next;
       reads_first = λ so. on.reads_first so;
@@ -144,21 +146,36 @@ live_closed w old new empty all_made live face added = record {
   source_short = λ long. live.source_short (sym (ap (λ (it : LinkFace). it.source_poll) face) ∙ long);
   dest_short = λ long. live.dest_short (sym (ap (λ (it : LinkFace). it.dest_poll) face) ∙ long);
   few_got = live.few_got;
+  few_over = live.few_over;
   completed = λ some. ap (λ (it : LinkFace). it.codes.source) face ∙ live.completed some;
   all_completed = λ closed code. (empty, all_made (sym (ap (λ (it : LinkFace). it.codes.source) face) ∙ code));
 }
 
 -- ---- the close failed, and it was told or not
 
-close_told : (w : Worker) (old new : Seen) (desk : DeskSeen) → w.read_over ≡ true → w.got_over ≡ false → w.closed ≡ false → HasCode w new.face → own_events new ≡ told_more (Closed ∷ []) (own_events old) → Grew old new
+close_told : (w : Worker) (old new : Seen) (desk : DeskSeen) → w.read_over ≡ true → w.got_over ≡ false → w.closed ≡ false → HasCode w new.face → new.face.input_open ≡ false → own_events new ≡ told_more (Closed ∷ []) (own_events old) → Grew old new
     → Ran (Stands w) (Ends status.LinkFault new.face w) old new desk desk
-close_told w old new desk over going opened code added grew = ran_then (Stands w) (Stands (closed_worker w)) (Ends status.LinkFault new.face w) old new new desk desk desk
+close_told w old new desk over going opened code shut added grew = ran_then (Stands w) (Stands (closed_worker w)) (Ends status.LinkFault new.face w) old new new desk desk desk
     (closes_way w old new desk over going opened added grew)
     (idle_way (Stands (closed_worker w)) (Ends status.LinkFault new.face w) new new desk desk refl (grew_none new) refl (desk_same desk)
-    (λ call streams read here said stands. unclosed (ends_at status.LinkFault (closed_worker w) new.face call streams read here said code (λ own on. clean (closed_worker w) streams read own on) stands)))
+    (λ call streams read here said stands. unclosed call streams read here said (ends_at status.LinkFault (closed_worker w) new.face call streams read here said code
+    (λ own on. (clean (closed_worker w) streams read own on, λ through. absurd (unfinished_going (closed_worker w) going streams read own on through))) stands)))
   where
-    unclosed : {call : Call} {streams : List ConfStream} {read : Reading} {here : Place} {said : List (List ℕ)} → Ends status.LinkFault new.face (closed_worker w) call streams read here said → Ends status.LinkFault new.face w call streams read here said
-    unclosed ends = record {
+    not_open : (b : Bool) → new.face.input_open ≡ b → b ≡ false → (w.got_over ≡ true) ⊎ IsTrue new.face.input_open → ⊥
+    not_open b is none (inl over) = false≢true (sym going ∙ over)
+    not_open b is none (inr open_so) = false≢true (sym shut ∙ open_so)
+
+    knows : (streams : List ConfStream) (read : Reading) (own : Running) → Knows (closed_worker w) (ids_of streams) read new.face own → Knows w (ids_of streams) read new.face own
+    knows streams read own is = record {
+      read_so = is.read_so;
+      got_so = is.got_so;
+      closed = λ closed. absurd (false≢true (sym opened ∙ closed));
+      opened = λ still known. absurd (not_open new.face.input_open refl shut known);
+      held = is.held;
+    }
+
+    unclosed : (call : Call) (streams : List ConfStream) (read : Reading) (here : Place) (said : List (List ℕ)) → Ends status.LinkFault new.face (closed_worker w) call streams read here said → Ends status.LinkFault new.face w call streams read here said
+    unclosed call streams read here said ends = record {
       begun = ends.begun;
       number = ends.number;
       ended = ends.ended;
@@ -166,12 +183,13 @@ close_told w old new desk over going opened code added grew = ran_then (Stands w
       set = ends.set;
       paid = ends.paid;
       so = ends.so;
+      knows = λ again same. (let own = ends.knows again same in (own.0, own.1, knows streams read own.0 own.2));
       unstarted = ends.unstarted;
       can_stop = ends.can_stop;
       said_so = ends.said_so;
     }
 
-pub close_failed : (w : Worker) (old new : Seen) (desk : DeskSeen) → w.read_over ≡ true → w.got_over ≡ false → w.closed ≡ false → HasCode w new.face → (own_events new ≡ own_events old) ⊎ (own_events new ≡ told_more (Closed ∷ []) (own_events old)) → Grew old new
+pub close_failed : (w : Worker) (old new : Seen) (desk : DeskSeen) → w.read_over ≡ true → w.got_over ≡ false → w.closed ≡ false → HasCode w new.face → new.face.input_open ≡ false → (own_events new ≡ own_events old) ⊎ (own_events new ≡ told_more (Closed ∷ []) (own_events old)) → Grew old new
     → Ran (Stands w) (Ends status.LinkFault new.face w) old new desk desk
-close_failed w old new desk over going opened code (inl same) grew = fault_way w old new desk code same grew
-close_failed w old new desk over going opened code (inr added) grew = close_told w old new desk over going opened code added grew
+close_failed w old new desk over going opened code shut (inl same) grew = failed_way w old new desk (unfinished_going w going) code same grew
+close_failed w old new desk over going opened code shut (inr added) grew = close_told w old new desk over going opened code shut added grew

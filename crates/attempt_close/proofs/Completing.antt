@@ -1,7 +1,8 @@
 -- Completions are made and given.
 use Rattle.std.proofs.Common.{arith, ◌≡◌, ◌⊎◌, inl, inr, ℕ, zero, suc, ◌+◌, ◌<◌, ◌≤◌, List, [], ◌∷◌, ◌++◌, Bool, true, false, cond, Option, None, Some, IfSome, IsTrue, refl, sym, ◌∙◌, ap, subst, append-nil, append_assoc, filter, drop, length, map}
-use Rattle.std.specs.Prelude.{slice_get, option_map, option_to_list, is_none}
-use Rattle.std.specs.Fmt.{decimal}
+use Rattle.std.specs.Prelude.{IfOk, Result, Ok, Err, slice_get, option_map, option_to_list, is_none}
+use Rattle.std.specs.Fmt.{decimal, digits}
+use Rattle.std.proofs.lemmas.Option.{slice_get-map}
 use Rattle.std.specs.List.{AllByRecursion, list_any}
 use Rattle.std.proofs.lemmas.Bool.{false≢true}
 use Rattle.json_fields.specs.Answer.{IsAnswer}
@@ -16,13 +17,14 @@ use Rattle.outside.specs.declared.event.Event.TheVariants.{Given}
 use Rattle.outside.specs.declared.event.Exit.TheVariants.{Code}
 use Rattle.outside.specs.declared.faults.Side.TheVariants as side
 use Rattle.outside.specs.declared.link.LinkFace.{LinkFace}
+use Rattle.outside.specs.declared.status.Status.TheVariants as status
 use Rattle.airbyte_message.specs.Messages.{IsMessage}
 use Rattle.airbyte_message.specs.declared.message.Message.{Message}
 use Rattle.airbyte_message.specs.declared.message.Message.TheVariants as message
 use Rattle.airbyte_message.specs.declared.message.TraceMsg.TheVariants as trace
 use Rattle.airbyte_message.specs.declared.stream_status.StreamStatus.TheVariants.{Complete}
 use Rattle.message_writer.specs.Forms.{HasNames}
-use Rattle.message_writer.proofs.Payloads.{written_is}
+use Rattle.message_writer.specs.Written.{written}
 use Rattle.catalog.specs.Reading.{ids_of}
 use Rattle.catalog.specs.declared.stream.ConfStream.{ConfStream}
 use Rattle.load_rules.specs.Lines.{Reading, ReadsText, lines_read, passes, state_in}
@@ -36,31 +38,23 @@ use Rattle.ledger_rules.specs.Ledgers.{IsLedgerOf}
 use Rattle.ledger_rules.proofs.Stands.{completes}
 use Rattle.attempt_turns.specs.Acts.{does, place_after}
 use Rattle.attempt_turns.specs.History.{Ran}
-use Rattle.attempt_turns.specs.Worker.{ComesBack, IsOn, Live, Stands, is_error, left_to_give, source_held}
+use Rattle.attempt_turns.specs.Silence.{Steps}
+use Rattle.attempt_turns.specs.Ends.{Ends}
+use Rattle.attempt_turns.specs.Worker.{ComesBack, HasCode, IsOn, Live, Stands, is_error, left_to_give, source_held}
+use Rattle.attempt_turns.specs.declared.worker.Moved.TheVariants as moved
 use Rattle.attempt_turns.specs.declared.worker.Worker.{Worker}
 use Rattle.attempt_turns.proofs.Lists.{any_one, each_one, gives_one, got_over_one, read_over_one, reading_one, same_gots, same_reads}
-use Rattle.attempt_turns.proofs.EndLemmas.{desk_same, none_said}
+use Rattle.attempt_turns.proofs.EndLemmas.{desk_same, lacked_way, none_said}
+use Rattle.attempt_turns.proofs.Ways.{grew_none}
 use Rattle.attempt_turns.proofs.LiveLemmas.{told_got, told_read}
-use Rattle.attempt_close.specs.Completions.{FirstUntold, HoldsNext, IsNextUntold, LeavesNone}
+use Rattle.attempt_turns.proofs.Placed.{placed_other}
+use Rattle.attempt_turns.proofs.TakenLemmas.{completion_none}
+use Rattle.attempt_turns.specs.Placed.{ArePlaced}
+use Rattle.attempt_close.specs.Completions.{CompletesNext, FirstUntold, HoldsNext, IsNextUntold, LeavesNone}
 use Rattle.attempt_close.specs.Turns.{HoldsCompletion}
-use Rattle.attempt_close.proofs.Places.{at_place, drop_end}
+use Rattle.attempt_close.proofs.Places.{at_place, drop_end, within_some}
 use Rattle.attempt_close.proofs.Statuses.{untold_first, untold_none}
 use Rattle.attempt_close.proofs.Ways.{SameCall, on_way}
-
--- ---- a completion is no state
-
-zero_number : IsNumber (decimal 0)
-zero_number = (let whole = decimal_literal 0 (omega arith) in record { literal = whole.literal; spelled = whole.spelled })
-
-completion_none : (read : Reading) (id : StreamId) → HasNames id → ReadsText read (completion id) → state_in (read (completion id)) ≡ None
-completion_none read id names right = at (read (completion id)) right
-  where
-    is : IsMessage (completion id) (message.Trace (trace.Status id Complete (Some (decimal 0))))
-    is = written_is (message.Trace (trace.Status id Complete (Some (decimal 0)))) (record { names = names; number = zero_number })
-
-    at : (found : Option Message) → IsAnswer (IsMessage (completion id)) found → state_in found ≡ None
-    at None answer = refl
-    at (Some content) answer = ap (λ it. state_in (Some it)) (sym (answer.only (message.Trace (trace.Status id Complete (Some (decimal 0)))) is))
 
 -- ---- the next completion is held
 
@@ -101,6 +95,7 @@ on_held w ids number id same empty over first at streams read own on =
       few_lines = on.few_lines;
       got_lines = on.got_lines;
       ledger = ledger_none;
+      placed = record { lanes = on.placed.lanes; held = tt };
       gives_next = on.gives_next
           ∙ (ap (λ list. (gives events ++ option_to_list w.held) ++ list) left
           ∙ (ap (λ held. (gives events ++ option_to_list held) ++ (completion id ∷ rest)) empty
@@ -110,6 +105,30 @@ on_held w ids number id same empty over first at streams read own on =
       reads_first = λ so. absurd (false≢true (sym so ∙ over));
       own_lines = λ none. absurd (false≢true (sym none));
     }
+
+pub holds_next : (w : Worker) (ids : List StreamId) (number : ℕ) (line : List ℕ) → w.ledger.ids ≡ ids → FirstUntold w.ledger w.completed number → ((id : StreamId) → slice_get ids number ≡ Some id → line ≡ completion id)
+    → HoldsNext ids w (record w { held = Some line; is_completing = true; completed = number + 1 })
+holds_next w ids number line same first line_is =
+    let found = within_some ids number (subst (λ list. number < length list) same first.within) in
+    record { number = number; first = first; id = found.0; at = found.1; is = ap (λ (it : List ℕ). let now : Worker = record w { held = Some it; is_completing = true; completed = number + 1 } in now) (line_is found.0 found.1) }
+
+pub line_of : (configured : List ConfStream) (number : ℕ) (stream : ConfStream) (id : StreamId) (emitted line : List ℕ) → slice_get configured number ≡ Some stream → id ≡ stream.id → emitted ≡ decimal 0 → line ≡ written (message.Trace (trace.Status id Complete (Some emitted)))
+    → (own : StreamId) → slice_get (ids_of configured) number ≡ Some own → line ≡ completion own
+line_of configured number stream id emitted line at copied zero_is is own found =
+    is ∙ (ap (λ it. written (message.Trace (trace.Status id Complete (Some it)))) zero_is
+    ∙ ap (λ it. written (message.Trace (trace.Status it Complete (Some (decimal 0))))) (copied ∙ some_id (sym (slice_get-map (λ (it : ConfStream). it.id) configured number ∙ ap (option_map (λ (it : ConfStream). it.id)) at) ∙ found)))
+  where
+    some_id : Some stream.id ≡ Some own → stream.id ≡ own
+    some_id e = cc
+
+pub line_if : {E : Type 0} (configured : List ConfStream) (number : ℕ) (stream : ConfStream) (id : StreamId) (emitted : List ℕ) (made : Result (List ℕ) E) → slice_get configured number ≡ Some stream → id ≡ stream.id → emitted ≡ decimal 0 → IfOk made (λ line. line ≡ written (message.Trace (trace.Status id Complete (Some emitted))))
+    → IfOk made (λ line. (own : StreamId) → slice_get (ids_of configured) number ≡ Some own → line ≡ completion own)
+line_if configured number stream id emitted (Ok line) at copied zero_is is = line_of configured number stream id emitted line at copied zero_is is
+line_if configured number stream id emitted (Err fault) at copied zero_is is = tt
+
+pub zero_text : 48 ∷ [] ≡ decimal 0
+unfolding digits
+zero_text = refl
 
 pub holds_way : (w now : Worker) (ids : List StreamId) (seen : Seen) (desk : DeskSeen) → w.ledger.ids ≡ ids → w.held ≡ None → w.read_over ≡ true → HoldsNext ids w now → Grew seen seen → Ran (Stands w) (Stands now) seen seen desk desk
 holds_way w now ids seen desk same empty over holds grew = subst (λ it. Ran (Stands w) (Stands it) seen seen desk desk) (sym holds.is)
@@ -142,21 +161,22 @@ on_told w over told streams read own on =
       few_lines = on.few_lines;
       got_lines = on.got_lines;
       ledger = on.ledger;
+      placed = on.placed;
       gives_next = on.gives_next ∙ ap (λ list. (gives events ++ option_to_list w.held) ++ list) (old ∙ sym new);
       reads_first = λ so. absurd (false≢true (sym so ∙ over));
       own_lines = λ none zero. no_more on.gives_next old (no_ids all (ap length (sym on.ledger.ids_are) ∙ zero));
     }
   where
+    empty_both : (b : Bool) → cond b (map completion []) [] ≡ []
+    empty_both true = refl
+    empty_both false = refl
+
     no_more : to_give (ids_of streams) read own.events ≡ (gives own.events ++ option_to_list w.held) ++ left_to_give w (ids_of streams) read own.events → left_to_give w (ids_of streams) read own.events ≡ [] → ids_of streams ≡ []
         → texts (passed (ids_of streams) read own.events) ≡ gives own.events ++ option_to_list w.held
     no_more next left none =
         sym (ap (λ list. texts (passed (ids_of streams) read own.events) ++ cond (read_over own.events) (map completion (filter (λ id. is_none (last_status id (lines_read read (reads own.events)))) list)) []) none
         ∙ (ap (λ list. texts (passed (ids_of streams) read own.events) ++ list) (empty_both (read_over own.events)) ∙ append-nil (texts (passed (ids_of streams) read own.events))))
         ∙ (next ∙ (ap (λ list. (gives own.events ++ option_to_list w.held) ++ list) left ∙ append-nil (gives own.events ++ option_to_list w.held)))
-
-    empty_both : (b : Bool) → cond b (map completion []) [] ≡ []
-    empty_both true = refl
-    empty_both false = refl
 
 pub leaves_way : (w now : Worker) (seen : Seen) (desk : DeskSeen) → w.read_over ≡ true → LeavesNone w now → Grew seen seen → Ran (Stands w) (Stands now) seen seen desk desk
 leaves_way w now seen desk over leaves grew = subst (λ it. Ran (Stands w) (Stands it) seen seen desk desk) (sym leaves.is)
@@ -181,6 +201,7 @@ on_completed w ids completing same own_line opened streams read own right on =
       orderly = on.orderly;
       reading = reading_one read events (Given text) on.reading right;
       ledger = completes all own.start read events w.ledger text stateless (subst (λ b. IsLedgerOf all own.start read events (cond b None w.held) w.ledger) own_line on.ledger);
+      placed = placed_other all read events w.ledger text stateless (subst (λ b. ArePlaced all read events (cond b None w.held) w.ledger) own_line on.placed);
       start = on.start;
       kept = on.kept;
       set_fits = record { has_streams = on.set_fits.has_streams; of_streams = on.set_fits.of_streams; of_all = on.set_fits.of_all };
@@ -227,37 +248,48 @@ may_complete w streams read text own attempt runs held opened on = subst (λ it.
   },
 )
 
-pub completes_way : (w : Worker) (ids : List StreamId) (old new : Seen) (desk : DeskSeen) (completing : HoldsCompletion ids w) → w.ledger.ids ≡ ids → w.is_completing ≡ true → w.closed ≡ false
-    → own_events new ≡ told_more (Given (completion completing.id) ∷ []) (own_events old) → Grew old new → Ran (Stands w) (Stands (completed_worker w)) old new desk desk
-completes_way w ids old new desk completing same own_line opened added grew =
+pub completes_step : (w : Worker) (ids : List StreamId) (old new : Seen) (desk : DeskSeen) (completing : HoldsCompletion ids w) → w.ledger.ids ≡ ids → w.is_completing ≡ true → w.closed ≡ false
+    → own_events new ≡ told_more (Given (completion completing.id) ∷ []) (own_events old) → Grew old new → Steps moved.Yes (Stands w) (Stands (completed_worker w)) old new desk desk
+completes_step w ids old new desk completing same own_line opened added grew =
     let text = completion completing.id in
     record {
-      acts = does (Given text) ∷ [];
-      lines = [];
-      added = added;
-      said = none_said desk;
-      grew = grew;
-      desk = desk_same desk;
-      leads = λ call streams read here said reading stands. (
-        place_after read here (Given text) (with_event (Given text) here.standing.sync),
-        (
-          with_event (Given text) here.standing.sync,
-          (may_complete w streams read text here.standing.sync.attempt stands.attempt stands.runs completing.is opened stands.on, refl),
-          subst (λ (n : ℕ). 0 < n) (sym stands.is_last.number) stands.is_last.positive,
-          record { works = stands.is_last.works; order = stands.is_last.number ∙ sym stands.is_last.ended },
-          refl,
-        ),
-        record {
-          is_last = record { begun = stands.is_last.begun; number = stands.is_last.number; positive = stands.is_last.positive; ended = stands.is_last.ended; works = stands.is_last.works };
-          attempt = and_event (Given text) stands.attempt;
-          runs = ap (option_map (and_event (Given text))) stands.runs;
-          on = on_completed w ids completing same own_line opened streams read stands.attempt reading.0 stands.on;
-          set = stands.set;
-          none_owed = stands.none_owed;
-          said_all = ap (λ list. list ++ []) stands.said_all;
-        },
-      );
+      ran = record {
+        acts = does (Given text) ∷ [];
+        lines = [];
+        added = added;
+        said = none_said desk;
+        grew = grew;
+        desk = desk_same desk;
+        leads = λ call streams read here said reading stands. (
+          place_after read here (Given text) (with_event (Given text) here.standing.sync),
+          (
+            with_event (Given text) here.standing.sync,
+            (may_complete w streams read text here.standing.sync.attempt stands.attempt stands.runs completing.is opened stands.on, refl),
+            subst (λ (n : ℕ). 0 < n) (sym stands.is_last.number) stands.is_last.positive,
+            record { works = stands.is_last.works; order = stands.is_last.number ∙ sym stands.is_last.ended },
+            refl,
+          ),
+          record {
+            is_last = record { begun = stands.is_last.begun; number = stands.is_last.number; positive = stands.is_last.positive; ended = stands.is_last.ended; works = stands.is_last.works };
+            attempt = and_event (Given text) stands.attempt;
+            runs = ap (option_map (and_event (Given text))) stands.runs;
+            on = on_completed w ids completing same own_line opened streams read stands.attempt reading.0 stands.on;
+            set = stands.set;
+            none_owed = stands.none_owed;
+            said_all = ap (λ list. list ++ []) stands.said_all;
+          },
+        );
+      };
+      are = inl refl;
     }
+
+pub completes_taken : (w : Worker) (ids : List StreamId) (old new : Seen) (desk : DeskSeen) (line text : List ℕ) (completing : HoldsCompletion ids w) → w.ledger.ids ≡ ids → w.is_completing ≡ true → w.closed ≡ false → line ≡ text → w.held ≡ Some text
+    → own_events new ≡ told_more (Given line ∷ []) (own_events old) → Grew old new → Steps moved.Yes (Stands w) (Stands (completed_worker w)) old new desk desk
+completes_taken w ids old new desk line text completing same own_line opened is held added grew =
+    completes_step w ids old new desk completing same own_line opened (added ∙ ap (λ it. told_more (Given it ∷ []) (own_events old)) (is ∙ some_is (sym held ∙ completing.is))) grew
+  where
+    some_is : Some text ≡ Some (completion completing.id) → text ≡ completion completing.id
+    some_is e = cc
 
 -- ---- the link
 
@@ -270,6 +302,7 @@ live_completed w text old new opened live face added = record {
   source_short = λ long. live.source_short (sym (ap (λ (it : LinkFace). it.source_poll) face) ∙ long);
   dest_short = λ long. live.dest_short (sym (ap (λ (it : LinkFace). it.dest_poll) face) ∙ long);
   few_got = live.few_got;
+  few_over = live.few_over;
   completed = λ some. ap (λ (it : LinkFace). it.codes.source) face ∙ live.completed (made some);
   all_completed = λ closed code. absurd (false≢true (sym opened ∙ closed));
 }
@@ -287,6 +320,7 @@ live_held w now ids seen opened code holds live = subst (λ it. Live it seen) (s
   source_short = live.source_short;
   dest_short = live.dest_short;
   few_got = live.few_got;
+  few_over = live.few_over;
   completed = λ some. code;
   all_completed = λ closed known. absurd (false≢true (sym opened ∙ closed));
 })
@@ -300,6 +334,18 @@ live_told w now seen opened code leaves live = subst (λ it. Live it seen) (sym 
   source_short = live.source_short;
   dest_short = live.dest_short;
   few_got = live.few_got;
+  few_over = live.few_over;
   completed = λ some. code;
   all_completed = λ closed known. absurd (false≢true (sym opened ∙ closed));
 })
+
+-- ---- for the function
+
+pub holds_by : (b : Bool) (w now : Worker) (ids : List StreamId) (seen : Seen) (desk : DeskSeen) → b ≡ true → w.ledger.ids ≡ ids → w.held ≡ None → w.read_over ≡ true → CompletesNext ids b w now → Grew seen seen → Ran (Stands w) (Stands now) seen seen desk desk
+holds_by b w now ids seen desk is same empty over next grew = holds_way w now ids seen desk same empty over (subst (λ it. CompletesNext ids it w now) is next) grew
+
+pub leaves_by : (b : Bool) (w now : Worker) (ids : List StreamId) (seen : Seen) (desk : DeskSeen) → b ≡ false → w.read_over ≡ true → CompletesNext ids b w now → Grew seen seen → Ran (Stands w) (Stands now) seen seen desk desk
+leaves_by b w now ids seen desk is over next grew = leaves_way w now seen desk over (subst (λ it. CompletesNext ids it w now) is next) grew
+
+pub lacks_by : (w now : Worker) (seen : Seen) (desk : DeskSeen) → now ≡ w → HasCode w seen.face → Ran (Stands w) (Ends status.NoMemory seen.face now) seen seen desk desk
+lacks_by w now seen desk same code = subst (λ (it : Worker). Ran (Stands w) (Ends status.NoMemory seen.face it) seen seen desk desk) (sym same) (lacked_way w seen seen desk code refl (grew_none seen))

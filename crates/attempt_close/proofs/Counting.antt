@@ -113,12 +113,13 @@ cons_nil e = cc
 -- where no event is the link's own none breaks silence
 still : (from : LinkCounts) (more : List (Told Event LinkCounts)) → filter is_links (map (λ (told : Told Event LinkCounts). told.event) more) ≡ [] → fold (λ it told. cond (breaks_silence told.event) told.counts it) from more ≡ from
 still from [] none = refl
-still from (told ∷ more) none = at (is_links told.event) refl none
+still from (told ∷ more) none = at (is_links told.event) refl none (λ empty. still from more empty)
   where
     at : (b : Bool) → is_links told.event ≡ b → cond b (told.event ∷ filter is_links (map (λ (it : Told Event LinkCounts). it.event) more)) (filter is_links (map (λ (it : Told Event LinkCounts). it.event) more)) ≡ []
+        → (filter is_links (map (λ (it : Told Event LinkCounts). it.event) more) ≡ [] → fold (λ it own. cond (breaks_silence own.event) own.counts it) from more ≡ from)
         → fold (λ it own. cond (breaks_silence own.event) own.counts it) (cond (breaks_silence told.event) told.counts from) more ≡ from
-    at true is empty = absurd (cons_nil empty)
-    at false is empty = ap (λ b. fold (λ it own. cond (breaks_silence own.event) own.counts it) (cond b told.counts from) more) (not_breaking told.event is) ∙ still from more empty
+    at true is empty later = absurd (cons_nil empty)
+    at false is empty later = ap (λ b. fold (λ it own. cond (breaks_silence own.event) own.counts it) (cond b told.counts from) more) (not_breaking told.event is) ∙ later empty
 
 none_own : (before more : List (Told Event LinkCounts)) → filter is_links (map (λ (told : Told Event LinkCounts). told.event) (before ++ more)) ≡ filter is_links (map (λ (told : Told Event LinkCounts). told.event) before)
     → filter is_links (map (λ (told : Told Event LinkCounts). told.event) more) ≡ []

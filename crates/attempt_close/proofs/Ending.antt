@@ -27,6 +27,7 @@ use Rattle.sync_rules.specs.Calls.{IsThrough}
 use Rattle.sync_rules.specs.Sync.{Running, completion, texts, to_give, untold}
 use Rattle.sync_ledger.specs.Accounts.{all_pending}
 use Rattle.sync_ledger.specs.Noted.{least_line}
+use Rattle.sync_ledger.specs.declared.notes.TheConstants.{MOST_LINES}
 use Rattle.attempt_turns.specs.Ends.{AllComplete, Causes, EndsSo, IsNotFailed, SourceKnown, WentClean}
 use Rattle.attempt_turns.specs.Waits.{IsFirstWaiting}
 use Rattle.attempt_turns.specs.Worker.{ClosedBehind, IsOn, Live, left_to_give, source_held}
@@ -36,6 +37,7 @@ use Rattle.attempt_close.specs.Ended.{AreDone, EndedBy, IsOver, WentWell}
 use Rattle.attempt_close.specs.Turns.{Fits}
 use Rattle.attempt_close.proofs.Places.{drop_end}
 use Rattle.attempt_close.proofs.Statuses.{all_complete, first_incomplete}
+use Rattle.attempt_close.proofs.Waiting.{first_waiting}
 
 -- ---- an attempt that went through
 
@@ -92,23 +94,28 @@ through w seen streams read own live code over read_all on =
 
 -- ---- the ends
 
-abbrev pub went_clean : (w : Worker) (seen : Seen) (streams : List ConfStream) (read : Reading) (own : Running) → Live w seen → seen.face.codes.source ≡ Some (Code 0) → IsOver w → w.read_over ≡ true → IsOn w streams read own → WentClean (ids_of streams) read own
-went_clean w seen streams read own live code over read_all on = record { clean = clean w streams read own on; through = through w seen streams read own live code over read_all on }
+abbrev went_clean : (w : Worker) (seen : Seen) (streams : List ConfStream) (read : Reading) (own : Running) → Live w seen → seen.face.codes.source ≡ Some (Code 0) → IsOver w → w.read_over ≡ true → IsOn w streams read own → WentClean (ids_of streams) read own
+went_clean w seen streams read own live code over read_all on = record {
+  clean = clean w streams read own on;
+  through = through w seen streams read own live code over read_all on;
+  few_read = on.few_lines;
+  few_got = subst (λ (n : ℕ). n ≤ MOST_LINES) on.got_lines (live.few_over over.got);
+}
 
 complete_so : (w : Worker) (streams : List ConfStream) (read : Reading) (own : Running) → AreDone w.ledger → IsOn w streams read own → AllComplete (ids_of streams) read own.events
 complete_so w streams read own done on = all_complete (ids_of streams) own.start read own.events (source_held w) w.ledger on.ledger done
 
+or_true : (b : Bool) → (b || true) ≡ true
+or_true true = refl
+or_true false = refl
+
+any_in : (front back : List Event) → list_any is_closed (front ++ Closed ∷ back) ≡ true
+any_in [] back = refl
+any_in (event ∷ front) back = ap (λ b. is_closed event || b) (any_in front back) ∙ or_true (is_closed event)
+
 -- the input of an attempt that went through was closed
 closed_through : (ids : List StreamId) (read : Reading) (events : List Event) → IsThrough ids read events → list_any is_closed events ≡ true
-closed_through ids read events is = ap (list_any is_closed) is.closes ∙ any_in is.front
-  where
-    any_in : (front : List Event) → list_any is_closed (front ++ Closed ∷ is.back) ≡ true
-    any_in [] = refl
-    any_in (event ∷ front) = ap (λ b. is_closed event || b) (any_in front) ∙ or_true (is_closed event)
-
-    or_true : (b : Bool) → (b || true) ≡ true
-    or_true true = refl
-    or_true false = refl
+closed_through ids read events is = ap (list_any is_closed) is.closes ∙ any_in is.front is.back
 
 read_first : (ids : List StreamId) (w : Worker) (codes : Codes) → Fits ids w codes → w.closed ≡ true → w.read_over ≡ true
 read_first ids w codes fits closed = at w.read_over refl
@@ -131,12 +138,12 @@ so_ended status.DestEarly ids w seen (early, dest, source) fits live streams rea
 so_ended (status.DestUnechoed line) ids w seen (went, least) fits live streams read own on = (
   went_clean w seen streams read own live went.source went.over (read_first ids w seen.face.codes fits went.over.closed) on,
   complete_so w streams read own went.done on,
-  first_waiting w streams read own (Some line) on least,
+  first_waiting (ids_of streams) own.start read own.events (source_held w) w.ledger (Some line) on.orderly.distinct on.ledger on.placed least,
 )
 so_ended status.Ok ids w seen (went, least) fits live streams read own on = (
   went_clean w seen streams read own live went.source went.over (read_first ids w seen.face.codes fits went.over.closed) on,
   complete_so w streams read own went.done on,
-  first_waiting w streams read own None on least,
+  first_waiting (ids_of streams) own.start read own.events (source_held w) w.ledger None on.orderly.distinct on.ledger on.placed least,
 )
 so_ended end ids w seen is fits live streams read own on = absurd is
 

@@ -3,6 +3,7 @@ pub mod Statuses
 pub mod Ways
 pub mod Completing
 pub mod Closing
+pub mod Waiting
 pub mod Ending
 pub mod Counting
 pub mod Turning

@@ -1,5 +1,5 @@
 -- The statuses that a ledger knows are those that the lines of the source say.
-use Rattle.std.proofs.Common.{arith, ◌≡◌, ℕ, zero, suc, ◌+◌, ◌<◌, ◌≤◌, List, [], ◌∷◌, Bool, true, false, cond, Option, None, Some, refl, sym, ◌∙◌, ap, subst, filter, drop, take, length, map, fold}
+use Rattle.std.proofs.Common.{arith, ◌≡◌, ◌⊎◌, inl, inr, ℕ, zero, suc, ◌+◌, ◌<◌, ◌≤◌, List, [], ◌∷◌, Bool, true, false, cond, Option, None, Some, refl, sym, ◌∙◌, ap, subst, filter, drop, take, length, map, fold}
 use Rattle.std.specs.Prelude.{slice_get, option_map, is_none}
 use Rattle.std.specs.List.{AllByRecursion}
 use Rattle.std.proofs.lemmas.Bool.{false≢true}
@@ -129,3 +129,30 @@ untold_none ids start read events line noted from is told =
     skip (is_untold read events) ids from (from + length ids) (omega arith)
     (λ other own low less found. tested is_none ids start read events line noted other own false is found (told other low (subst (λ list. other < length list) (sym is.ids_are) (some_within ids other own found))))
     ∙ ap (filter (is_untold read events)) (drop_end ids (from + length ids) (omega arith))
+
+-- ---- what a ledger answers of a number
+
+pub tested_at : (test : Option StreamStatus → Bool) (noted : Noted) (number : ℕ) (status : Option StreamStatus) (b : Bool) → Some status ≡ option_map (λ account. account.status) (slice_get noted.accounts.streams number) → test status ≡ b
+    → option_map (λ account. test account.status) (slice_get noted.accounts.streams number) ≡ Some b
+tested_at test noted number status b = at (slice_get noted.accounts.streams number)
+  where
+    at : (found : Option Account) → Some status ≡ option_map (λ account. account.status) found → test status ≡ b → option_map (λ account. test account.status) found ≡ Some b
+    at None is same = absurd (none_some (sym is))
+    at (Some account) is same = ap (λ it. Some it) (ap test (sym (some_is is)) ∙ same)
+
+pub one_told : (P : ℕ → Type 0) (from n : ℕ) → ((other : ℕ) → from ≤ other → other < n → P other) → P n → (other : ℕ) → from ≤ other → other < n + 1 → P other
+one_told P from n before here other low less = at (other_cases other n (omega (arith, less)))
+  where
+    other_cases : (a b : ℕ) → a ≤ b → (a < b) ⊎ (a ≡ b)
+    other_cases zero zero within = inr refl
+    other_cases zero (suc b) within = inl (omega arith)
+    other_cases (suc a) zero within = absurd (omega (arith, within))
+    other_cases (suc a) (suc b) within = shift (other_cases a b (omega (arith, within)))
+      where
+        shift : (a < b) ⊎ (a ≡ b) → (suc a < suc b) ⊎ (suc a ≡ suc b)
+        shift (inl is) = inl (omega (arith, is))
+        shift (inr same) = inr (ap (λ n. suc n) same)
+
+    at : (other < n) ⊎ (other ≡ n) → P other
+    at (inl is) = before other low is
+    at (inr same) = subst P (sym same) here

@@ -3,7 +3,7 @@ use Rattle.std.proofs.Common.{arith, ◌≡◌, ◌⊎◌, inl, inr, ℕ, zero, 
 use Rattle.std.proofs.lemmas.Bool.{false≢true}
 use Rattle.outside.specs.Desk.{DeskSeen}
 use Rattle.outside.specs.Link.{Seen, Grew, own_events}
-use Rattle.outside.specs.declared.event.Exit.TheVariants.{Code}
+use Rattle.outside.specs.declared.event.Codes.{Codes}
 use Rattle.outside.specs.declared.link.LinkFace.{LinkFace}
 use Rattle.outside.specs.declared.status.Status.{Status}
 use Rattle.outside.specs.declared.status.Status.TheVariants as status
@@ -15,11 +15,13 @@ use Rattle.load_rules.specs.Attempts.{gives, passed}
 use Rattle.sync_rules.specs.Calls.{Call}
 use Rattle.sync_rules.specs.Sync.{Running, texts}
 use Rattle.attempt_turns.specs.Acts.{Place}
-use Rattle.attempt_turns.specs.Ends.{CanStop, Ends, EndsSo}
+use Rattle.attempt_turns.specs.Ends.{Ends, EndsSo}
 use Rattle.attempt_turns.specs.History.{KeepsDesk, Ran, State}
-use Rattle.attempt_turns.specs.Worker.{HasCode, IsOn, Live, Stands}
+use Rattle.attempt_turns.specs.Silence.{Steps}
+use Rattle.attempt_turns.specs.Worker.{HasCode, IsOn, Stands}
+use Rattle.attempt_turns.specs.declared.worker.Moved.TheVariants as moved
 use Rattle.attempt_turns.specs.declared.worker.Worker.{Worker}
-use Rattle.attempt_turns.proofs.EndLemmas.{clean, desk_same, ends_here, given_front, no_events, none_said}
+use Rattle.attempt_turns.proofs.EndLemmas.{desk_same, ends_here, may_stop, no_events, none_said}
 
 -- ---- the worker changes, and nothing is told
 
@@ -59,26 +61,30 @@ idle_way A B old new desk_old desk_new events grew said_same keeps then = record
   leads = λ call streams read here said reading is. (here, refl, subst (λ list. B call streams read here list) (sym (append-nil said)) (then call streams read here said is));
 }
 
+pub still_step : (w : Worker) (old new : Seen) (desk_old desk_new : DeskSeen) → own_events new ≡ own_events old → Grew old new → desk_new.said ≡ desk_old.said → KeepsDesk desk_old desk_new → Steps moved.No (Stands w) (Stands w) old new desk_old desk_new
+still_step w old new desk_old desk_new events grew said_same keeps = record {
+  ran = record {
+    acts = [];
+    lines = [];
+    added = no_events old new events;
+    said = said_same ∙ none_said desk_old;
+    grew = grew;
+    desk = keeps;
+    leads = λ call streams read here said reading stands. (here, refl, subst (λ list. Stands w call streams read here list) (sym (append-nil said)) stands);
+  };
+  are = refl;
+}
+
+-- a desk of which what was said is written out
+pub flushed : (old new : DeskSeen) → new ≡ record old { say_faults = new.say_faults } → old.say_faults ≤ new.say_faults → KeepsDesk old new
+flushed old new same kept = record { say_faults = kept; read_faults = ap (λ (it : DeskSeen). it.read_faults) same; texts = ap (λ (it : DeskSeen). it.texts) same }
+
 pub on_way : (w now : Worker) (old new : Seen) (desk : DeskSeen) → SameCall w now → own_events new ≡ own_events old → Grew old new → ((streams : List ConfStream) (read : Reading) (own : Running) → IsOn w streams read own → IsOn now streams read own)
     → Ran (Stands w) (Stands now) old new desk desk
 on_way w now old new desk same events grew on = idle_way (Stands w) (Stands now) old new desk desk events grew refl (desk_same desk)
     (λ call streams read here said stands. stands_on w now call streams read here said same (λ own is. on streams read own is) stands)
 
 -- ---- the attempt ends where it stands
-
--- where no completion was made what was given is of what is passed on; and else the source is known to have ended with code 0
-rightly : (w : Worker) (streams : List ConfStream) (read : Reading) (face : LinkFace) (own : Running) → HasCode w face → IsOn w streams read own
-    → IsPrefix (gives own.events) (texts (passed (ids_of streams) read own.events)) ⊎ (face.codes.source ≡ Some (Code 0))
-rightly w streams read face own code on = at w.is_completing w.completed refl refl
-  where
-    at : (b : Bool) (n : ℕ) → w.is_completing ≡ b → w.completed ≡ n → IsPrefix (gives own.events) (texts (passed (ids_of streams) read own.events)) ⊎ (face.codes.source ≡ Some (Code 0))
-    at true n own_line made = inr (code (inl own_line))
-    at false zero own_line none = inl (given_front w streams read own on own_line none)
-    at false (suc n) own_line some = inr (code (inr (omega (arith, some))))
-
-pub may_stop : (w : Worker) (call : Call) (streams : List ConfStream) (read : Reading) (face : LinkFace) (here : Place) (said : List (List ℕ)) → HasCode w face → Stands w call streams read here said → CanStop streams read face here
-may_stop w call streams read face here said code stands =
-    record { attempt = stands.attempt; runs = stands.runs; going = stands.on.going; rightly = rightly w streams read face stands.attempt code stands.on }
 
 pub ends_at : (end : Status) (w : Worker) (face : LinkFace) (call : Call) (streams : List ConfStream) (read : Reading) (here : Place) (said : List (List ℕ)) → HasCode w face → ((own : Running) → IsOn w streams read own → EndsSo end (ids_of streams) read face own)
     → Stands w call streams read here said → Ends end face w call streams read here said
@@ -89,11 +95,5 @@ pub end_way : (end : Status) (w : Worker) (old new : Seen) (desk_old desk_new : 
 end_way end w old new desk_old desk_new code events grew said_same keeps so = idle_way (Stands w) (Ends end new.face w) old new desk_old desk_new events grew said_same keeps
     (λ call streams read here said stands. ends_at end w new.face call streams read here said code (λ own is. so streams read own is) stands)
 
-pub fault_way : (w : Worker) (old new : Seen) (desk : DeskSeen) → HasCode w new.face → own_events new ≡ own_events old → Grew old new → Ran (Stands w) (Ends status.LinkFault new.face w) old new desk desk
-fault_way w old new desk code events grew = end_way status.LinkFault w old new desk desk code events grew refl (desk_same desk) (λ streams read own on. clean w streams read own on)
-
-pub lack_way : (w : Worker) (old new : Seen) (desk : DeskSeen) → HasCode w new.face → own_events new ≡ own_events old → Grew old new → Ran (Stands w) (Ends status.NoMemory new.face w) old new desk desk
-lack_way w old new desk code events grew = end_way status.NoMemory w old new desk desk code events grew refl (desk_same desk) (λ streams read own on. tt)
-
 pub same_code : (w : Worker) (old new : LinkFace) → new.codes ≡ old.codes → HasCode w old → HasCode w new
-same_code w old new same code some = ap (λ it. it.source) same ∙ code some
+same_code w old new same code some = ap (λ (it : Codes). it.source) same ∙ code some

@@ -71,8 +71,8 @@ pub record SameEnds (w now : Worker) : Type 0 where
 
 -- by either step
 abbrev pub either : Moved → Moved → Moved
-either moved.Yes then = moved.Yes
-either moved.No then = then
+either moved.Yes next = moved.Yes
+either moved.No next = next
 
 -- the counts of both sides rose that silence names
 pub record SidesWereQuiet (w : Worker) (old new : Seen) : Type 0 where
@@ -110,11 +110,6 @@ TellsSo moved.No acts = events_in acts ≡ []
 
 abbrev pub GoesOnSo : Moved → State → State → Seen → Seen → DeskSeen → DeskSeen → Type 0
 GoesOnSo moved A B old new desk_old desk_new = RanSo (TellsSo moved) A B old new desk_old desk_new
-
--- where the link failed the attempt had not gone through
-abbrev pub IsOpenAt : Status → Worker → Type 0
-IsOpenAt status.LinkFault w = (w.closed ≡ false) ⊎ (w.got_over ≡ false)
-IsOpenAt end w = Unit {0}
 
 -- A turn that brought something leaves less to come. One that did not left all as it was: no event was told and no code became known;
 -- and the counts that silence names rose.

@@ -7,7 +7,7 @@ ghost use Rattle.attempt_turns.specs.Ends.{Ends, TurnCause, WasQuiet};
 ghost use Rattle.attempt_turns.specs.History.{Ran};
 ghost use Rattle.attempt_turns.specs.Silence.{Fewer, Rested, Steps};
 ghost use Rattle.attempt_turns.specs.Worker.{Live, Stands};
-ghost use Rattle.attempt_close.specs.Turns.{Fits, HoldsCompletion, IsOpenAt, IsSettled, all_left};
+ghost use Rattle.attempt_close.specs.Turns.{Fits, HoldsCompletion, IsSettled, all_left};
 
 use crate::complete::next_completion;
 use attempt_turns::{Moved, Worker};
@@ -59,7 +59,6 @@ pub fn close_input<L: Link>(link: &mut L, w: &mut Worker) -> Result<(), Status>
     ensures err { (desk : DeskSeen) → IfErr result (λ end. Ran (Stands w.old) (Ends end (L.seen link.new).face w.new) (L.seen link.old) (L.seen link.new) desk desk) }
     ensures cause { (desk : DeskSeen) → IfErr result (λ end. TurnCause end (L.seen link.old) (L.seen link.new) desk desk) }
     ensures closed { OnOk result (w.new.closed ≡ true) }
-    ensures open { IfErr result (λ end. IsOpenAt end w.new) }
     ensures kept { w.new ≡ record (w.old) { closed = w.new.closed } }
     ensures codes { (L.seen link.new).face.codes ≡ (L.seen link.old).face.codes }
     ensures running { (L.seen link.new).face.running ≡ (L.seen link.old).face.running }
@@ -92,7 +91,6 @@ fn complete<L: Link>(
     ensures live { OnOk result (Live w.new (L.seen link.new)) }
     ensures err { (desk : DeskSeen) → IfErr result (λ end. Ran (Stands w.old) (Ends end (L.seen link.new).face w.new) (L.seen link.old) (L.seen link.new) desk desk) }
     ensures cause { (desk : DeskSeen) → IfErr result (λ end. TurnCause end (L.seen link.old) (L.seen link.new) desk desk) }
-    ensures open { IfErr result (λ end. IsOpenAt end w.new) }
     ensures kept { w.new ≡ record (w.old) { held = w.new.held; is_completing = w.new.is_completing; completed = w.new.completed; closed = w.new.closed } }
     ensures fits { OnOk result (Fits (ids_of configured.now) w.new (L.seen link.new).face.codes) }
     ensures settled { OnOk result (IsSettled w.new (L.seen link.new).face.codes) }
@@ -101,8 +99,15 @@ fn complete<L: Link>(
     ensures running { (L.seen link.new).face.running ≡ (L.seen link.old).face.running }
 {
     match next_completion(alloc, configured, w) {
-        Ok(true) => Ok(()),
-        Ok(false) => close_input(link, w),
+        Ok(is_held) => {
+            if is_held {
+                return Ok(());
+            }
+            match close_input(link, w) {
+                Ok(()) => Ok(()),
+                Err(end) => Err(end),
+            }
+        }
         Err(_) => Err(Status::NoMemory),
     }
 }
@@ -123,7 +128,6 @@ pub fn settle<L: Link>(
     ensures live { OnOk result (Live w.new (L.seen link.new)) }
     ensures err { (desk : DeskSeen) → IfErr result (λ end. Ran (Stands w.old) (Ends end (L.seen link.new).face w.new) (L.seen link.old) (L.seen link.new) desk desk) }
     ensures cause { (desk : DeskSeen) → IfErr result (λ end. TurnCause end (L.seen link.old) (L.seen link.new) desk desk) }
-    ensures open { IfErr result (λ end. IsOpenAt end w.new) }
     ensures kept { w.new ≡ record (w.old) { held = w.new.held; is_completing = w.new.is_completing; completed = w.new.completed; closed = w.new.closed } }
     ensures fits { OnOk result (Fits (ids_of configured.now) w.new (L.seen link.new).face.codes) }
     ensures settled { OnOk result (IsSettled w.new (L.seen link.new).face.codes) }

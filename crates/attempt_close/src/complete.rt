@@ -1,5 +1,5 @@
 // Lines of the worker's own, which tell that streams are complete.
-ghost use Rattle.std.specs.Prelude.{◌≡◌, ◌<◌, ◌≤◌, ℕ, length, slice_get, IfOk, OnErr, Some};
+ghost use Rattle.std.specs.Prelude.{◌≡◌, ◌+◌, ◌<◌, ◌^◌, ℕ, length, slice_get, IfOk, IfSome, OnErr, Some};
 ghost use Rattle.basics.specs.declared.stream.StreamId.{StreamId};
 ghost use Rattle.catalog.specs.Reading.{ids_of};
 ghost use Rattle.sync_rules.specs.Sync.{completion};
@@ -37,7 +37,8 @@ fn completion_line(
 
 // The first stream from this number on that has no status.
 fn next_untold(ledger: &Ledger, from: StreamNo) -> Option<StreamNo>
-    ensures { IsNextUntold ledger.now from result }
+    ensures next { IsNextUntold ledger.now from result }
+    ensures room { IfSome result (λ n. n + 1 < 2 ^ 32) }
 {
     for n in from..ledger.streams() {
         if ledger.status_of(n).is_none() {

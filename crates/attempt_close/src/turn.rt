@@ -8,7 +8,7 @@ ghost use Rattle.attempt_turns.specs.Ends.{Ends, TurnCause, WasQuiet, WasQuietBa
 ghost use Rattle.attempt_turns.specs.History.{Ran};
 ghost use Rattle.attempt_turns.specs.Silence.{Fewer, Rested, Steps};
 ghost use Rattle.attempt_turns.specs.Worker.{Live, Stands};
-ghost use Rattle.attempt_close.specs.Turns.{Fits, GoesOnSo, HoldsCompletion, IsOpenAt, IsSettled, QuietSides, QuietSource, SameEnds, Settles, Turned, either as by_either};
+ghost use Rattle.attempt_close.specs.Turns.{Fits, GoesOnSo, HoldsCompletion, IsSettled, QuietSides, QuietSource, SameEnds, Settles, Turned, either as by_either};
 
 use crate::close::{offer_completion, settle};
 use crate::codes::learn_codes;
@@ -18,12 +18,12 @@ use outside::{Codes, Desk, Fault, Link, Status};
 use std::alloc::Global;
 
 // Whether either step brought something.
-fn either(first: Moved, then: Moved) -> Moved
-    ensures { result ≡ by_either first then }
+fn either(first: Moved, next: Moved) -> Moved
+    ensures { result ≡ by_either first next }
 {
     match first {
         Moved::Yes => Moved::Yes,
-        Moved::No => then,
+        Moved::No => next,
     }
 }
 
@@ -40,7 +40,6 @@ fn dest_side<K: Desk, L: Link>(
     ensures live { OnOk result (Live w.new (L.seen link.new)) }
     ensures err { IfErr result (λ end. Ran (Stands w.old) (Ends end (L.seen link.new).face w.new) (L.seen link.old) (L.seen link.new) (K.seen desk.old) (K.seen desk.new)) }
     ensures cause { IfErr result (λ end. TurnCause end (L.seen link.old) (L.seen link.new) (K.seen desk.old) (K.seen desk.new)) }
-    ensures open { IfErr result (λ end. IsOpenAt end w.new) }
     ensures quiet { w.old.got_over ≡ false → IfOk result (λ moved. WasQuietBack moved (L.seen link.old) (L.seen link.new)) }
     ensures rested { IfOk result (λ moved. Rested moved w.old w.new) }
     ensures fewer { IfOk result (λ moved. Fewer moved w.old w.new) }
@@ -94,7 +93,6 @@ fn source_side<K: Desk, L: Link>(
     ensures live { OnOk result (Live w.new (L.seen link.new)) }
     ensures err { IfErr result (λ end. Ran (Stands w.old) (Ends end (L.seen link.new).face w.new) (L.seen link.old) (L.seen link.new) (K.seen desk.old) (K.seen desk.new)) }
     ensures cause { IfErr result (λ end. TurnCause end (L.seen link.old) (L.seen link.new) (K.seen desk.old) (K.seen desk.new)) }
-    ensures open { IfErr result (λ end. IsOpenAt end w.new) }
     ensures quiet { IsSettled w.old (L.seen link.old).face.codes → IfOk result (λ moved. QuietSource moved w.old (L.seen link.old) (L.seen link.new)) }
     ensures rested { IfOk result (λ moved. Rested moved w.old w.new) }
     ensures fewer { IfOk result (λ moved. Fewer moved w.old w.new) }
@@ -130,7 +128,6 @@ fn both_sides<K: Desk, L: Link>(
     ensures live { OnOk result (Live w.new (L.seen link.new)) }
     ensures err { IfErr result (λ end. Ran (Stands w.old) (Ends end (L.seen link.new).face w.new) (L.seen link.old) (L.seen link.new) (K.seen desk.old) (K.seen desk.new)) }
     ensures cause { IfErr result (λ end. TurnCause end (L.seen link.old) (L.seen link.new) (K.seen desk.old) (K.seen desk.new)) }
-    ensures open { IfErr result (λ end. IsOpenAt end w.new) }
     ensures quiet { IsSettled w.old (L.seen link.old).face.codes → IfOk result (λ moved. QuietSides moved w.old (L.seen link.old) (L.seen link.new)) }
     ensures rested { IfOk result (λ moved. Rested moved w.old w.new) }
     ensures fewer { IfOk result (λ moved. Fewer moved w.old w.new) }
@@ -154,7 +151,6 @@ fn rest<K: Desk, L: Link>(desk: &mut K, link: &mut L, w: &Worker) -> Result<(), 
     ensures ok { OnOk result (Steps Moved.No (Stands w.now) (Stands w.now) (L.seen link.old) (L.seen link.new) (K.seen desk.old) (K.seen desk.new)) }
     ensures err { IfErr result (λ end. Ran (Stands w.now) (Ends end (L.seen link.new).face w.now) (L.seen link.old) (L.seen link.new) (K.seen desk.old) (K.seen desk.new)) }
     ensures cause { IfErr result (λ end. TurnCause end (L.seen link.old) (L.seen link.new) (K.seen desk.old) (K.seen desk.new)) }
-    ensures open { IfErr result (λ end. IsOpenAt end w.now) }
     ensures waited { OnOk result (Rose (L.seen link.old).counts.waits (L.seen link.new).counts.waits) }
     ensures events { own_events (L.seen link.new) ≡ own_events (L.seen link.old) }
     ensures face { (L.seen link.new).face ≡ (L.seen link.old).face }
@@ -187,15 +183,20 @@ fn close_turn<K: Desk, L: Link>(
     ensures live { OnOk result (Live w.new (L.seen link.new)) }
     ensures err { IfErr result (λ end. Ran (Stands w.old) (Ends end (L.seen link.new).face w.new) (L.seen link.old) (L.seen link.new) (K.seen desk.old) (K.seen desk.new)) }
     ensures cause { IfErr result (λ end. TurnCause end (L.seen link.old) (L.seen link.new) (K.seen desk.old) (K.seen desk.new)) }
-    ensures open { IfErr result (λ end. IsOpenAt end w.new) }
     ensures settled { OnOk result (Settles moved (ids_of configured.now) w.old w.new (L.seen link.old) (L.seen link.new)) }
     ensures number { w.new.number ≡ w.old.number }
     ensures codes { (L.seen link.new).face.codes ≡ (L.seen link.old).face.codes }
     ensures running { (L.seen link.new).face.running ≡ (L.seen link.old).face.running }
 {
     match moved {
-        Moved::Yes => settle(alloc, link, w, configured, known),
-        Moved::No => rest(desk, link, w),
+        Moved::Yes => match settle(alloc, link, w, configured, known) {
+            Ok(()) => Ok(()),
+            Err(end) => Err(end),
+        },
+        Moved::No => match rest(desk, link, w) {
+            Ok(()) => Ok(()),
+            Err(end) => Err(end),
+        },
     }
 }
 
@@ -218,7 +219,6 @@ pub fn turn<K: Desk, L: Link>(
     ensures live { OnOk result (Live w.new (L.seen link.new)) }
     ensures err { IfErr result (λ end. Ran (Stands w.old) (Ends end (L.seen link.new).face w.new) (L.seen link.old) (L.seen link.new) (K.seen desk.old) (K.seen desk.new)) }
     ensures cause { IfErr result (λ end. TurnCause end (L.seen link.old) (L.seen link.new) (K.seen desk.old) (K.seen desk.new)) }
-    ensures open { IfErr result (λ end. IsOpenAt end w.new) }
     ensures turned { IfOk result (λ moved. Turned moved w.old w.new (L.seen link.old) (L.seen link.new)) }
     ensures fits { OnOk result (Fits (ids_of configured.now) w.new (L.seen link.new).face.codes) }
     ensures settled { OnOk result (IsSettled w.new (L.seen link.new).face.codes) }
