@@ -3,6 +3,7 @@ use Rattle.std.proofs.Common.{arith, ◌≡◌, ◌⊎◌, inl, inr, ℕ, ◌+�
 use Rattle.std.proofs.lemmas.Bool.{false≢true}
 use Rattle.std.proofs.Math.Nat.{mul-le-mul_left}
 use Rattle.basics.specs.Told.{Rose, RoseBy}
+use Rattle.basics.specs.declared.stream.StreamId.{StreamId}
 use Rattle.outside.specs.Desk.{DeskSeen}
 use Rattle.outside.specs.Link.{Seen, Grew, KeepsCodes, KeepsExit, NoneAbove, own_events}
 use Rattle.outside.specs.declared.event.Codes.{Codes}
@@ -22,13 +23,18 @@ use Rattle.sync_rules.specs.Sync.{Running, texts}
 use Rattle.attempt_turns.specs.Acts.{Place}
 use Rattle.attempt_turns.specs.Ends.{CanStop, Causes, Ends, Knows, TurnCause}
 use Rattle.attempt_turns.specs.History.{KeepsDesk, Ran, State}
-use Rattle.attempt_turns.specs.Worker.{Stands}
+use Rattle.attempt_turns.specs.Worker.{Live, Stands}
+use Rattle.attempt_turns.specs.declared.worker.Moved.{Moved}
+use Rattle.attempt_turns.specs.declared.worker.Moved.TheVariants as moved
 use Rattle.attempt_turns.specs.declared.worker.Worker.{Worker}
-use Rattle.attempt_turns.proofs.EndLemmas.{desk_same}
-use Rattle.attempt_turns.proofs.Ways.{ran_then}
+use Rattle.attempt_turns.proofs.EndLemmas.{clean, desk_same}
+use Rattle.attempt_turns.proofs.Ways.{grew_none, grew_then, ran_then}
 use Rattle.attempt_close.specs.Codes.{EndsBehind, IsFaultEnd}
-use Rattle.attempt_close.proofs.Counting.{rose_from, rose_to}
-use Rattle.attempt_close.proofs.Ways.{idle_way}
+use Rattle.attempt_close.specs.Ended.{Awaits, EndedBy, HasEnded}
+use Rattle.attempt_close.specs.Turns.{Begins, Fits, IsSettled, Rests, SilentSince, Turned, WasSilent, quiet_after}
+use Rattle.attempt_close.proofs.Counting.{Quiet, rose_to, row_begins, row_goes_on, row_is_silent}
+use Rattle.attempt_close.proofs.Ending.{cause_ended, so_ended}
+use Rattle.attempt_close.proofs.Ways.{end_way, idle_way}
 
 -- ---- the codes were looked at behind a failed call
 
@@ -132,3 +138,52 @@ cause_behind (status.ConfigError from line) end w x y z d e cause grew is = subs
 cause_behind status.TooManyLines end w x y z d e cause grew is = subst (λ it. Causes it w x.counts d.say_faults z e.say_faults) (sym is.0) tt
 cause_behind status.NoMemory end w x y z d e cause grew is = subst (λ it. Causes it w x.counts d.say_faults z e.say_faults) (sym is.0) tt
 cause_behind before end w x y z d e cause grew is = absurd cause
+
+-- ---- the beginning
+
+pub fits_first : (ids : List StreamId) (w : Worker) (seen : Seen) → Begins ids w seen → Fits ids w seen.face.codes
+fits_first ids w seen begins = record {
+  ids_are = begins.ids_are;
+  own_line = λ own. absurd (false≢true (sym begins.not_completing ∙ own));
+  reads_first = λ going. begins.opened;
+  closed_known = λ closed. absurd (false≢true (sym begins.opened ∙ closed));
+}
+
+pub settled_first : (ids : List StreamId) (w : Worker) (seen : Seen) → Begins ids w seen → IsSettled w seen.face.codes
+settled_first ids w seen begins over empty known going = absurd (false≢true (sym begins.reads ∙ over))
+
+-- ---- the end by what is known
+
+pub ended_way : (end : Status) (ids : List StreamId) (w : Worker) (seen : Seen) (known : Codes) (desk : DeskSeen) → known ≡ seen.face.codes → EndedBy end w known → Fits ids w seen.face.codes → Live w seen → Ran (Stands w) (Ends end seen.face w) seen seen desk desk
+ended_way end ids w seen known desk same is fits live =
+    let ended : EndedBy end w seen.face.codes = subst (EndedBy end w) same is in
+    end_way end w seen seen desk desk live.completed refl (grew_none seen) refl (desk_same desk) (λ streams read own on. so_ended end ids w seen ended fits live streams read own on)
+
+pub ended_cause : (end : Status) (ids : List StreamId) (w : Worker) (from : LinkCounts) (say : ℕ) (now : Seen) (said : ℕ) (known : Codes) → known ≡ now.face.codes → EndedBy end w known → Fits ids w now.face.codes → Causes end w from say now said
+ended_cause end ids w from say now said known same is fits = cause_ended end ids w from say now said (subst (EndedBy end w) same is) fits
+
+-- ---- silence
+
+pub silent_way : (waits : ℕ) (w : Worker) (seen : Seen) (desk : DeskSeen) → Live w seen → Ran (Stands w) (Ends (status.Silent waits) seen.face w) seen seen desk desk
+silent_way waits w seen desk live = end_way (status.Silent waits) w seen seen desk desk live.completed refl (grew_none seen) refl (desk_same desk) (λ streams read own on. clean w streams read own on)
+
+pub row_turn : (kind : Moved) (turns : ℕ) (w now : Worker) (old between new : Seen) → Grew old between → Grew between new → Quiet turns w old between → Turned kind w now between new → Quiet (quiet_after turns kind) now old new
+row_turn moved.Yes turns w now old between new first then quiet turned = row_begins now old new (grew_then old between new first then)
+row_turn moved.No turns w now old between new first then quiet turned = subst (λ (it : Worker). Quiet (turns + 1) it old new) (sym turned.same) (row_goes_on turns w old between new first then quiet (subst (λ (it : Worker). Rests w it between new) turned.same turned))
+
+pub few_turns : (kind : Moved) (turns now : ℕ) → turns < 5400 → now ≡ quiet_after turns kind → (now ≡ 5400 → ⊥) → now < 5400
+few_turns moved.Yes turns now few is not_all = omega (arith, is)
+few_turns moved.No turns now few is not_all = omega (arith, few, is, not_all)
+
+pub awaits_by : (found : Option Status) (w : Worker) (known : Codes) → HasEnded found w known → ((end : Status) → found ≡ Some end → ⊥) → Awaits w known
+awaits_by None w known is none = is
+awaits_by (Some end) w known is none = absurd (none end refl)
+
+pub silent_so : (kind : Moved) (turns now_turns : ℕ) (w now : Worker) (old between new : Seen) (known : Codes) → now_turns ≡ quiet_after turns kind → now_turns ≡ 5400 → known ≡ between.face.codes → Awaits w known → Grew old between → Grew between new → Quiet turns w old between
+    → Turned kind w now between new → Live now new → WasSilent now old new
+silent_so moved.Yes turns now_turns w now old between new known is all same awaits first then quiet turned live = absurd (omega (arith, is, all))
+silent_so moved.No turns now_turns w now old between new known is all same awaits first then quiet turned live = record {
+  since = subst (λ n. SilentSince n now old new) (sym is ∙ all) (row_is_silent (turns + 1) now old new (row_turn moved.No turns w now old between new first then quiet turned));
+  awaits = subst (λ (it : Worker). Awaits it new.face.codes) (sym turned.same) (subst (Awaits w) (same ∙ sym turned.codes) awaits);
+  opened = live.input_open;
+}

@@ -9,4 +9,5 @@ mod ended;
 mod run;
 mod turn;
 
-pub use run::run_turns;
+pub use codes::end_of_fault;
+pub use run::{QUIET_TURNS, run_turns};

@@ -61,6 +61,7 @@ pub fn run_turns<K: Desk, L: Link>(
     ensures cause { Causes result w.new (L.seen link.old).counts (K.seen desk.old).say_faults (L.seen link.new) (K.seen desk.new).say_faults }
     ensures silent { SilentSo result w.new (L.seen link.old) (L.seen link.new) }
     ensures number { w.new.number ≡ w.old.number }
+    ensures running { (L.seen link.new).face.running ≡ (L.seen link.old).face.running }
 {
     let mut known = Codes {
         source: None,
