@@ -26,13 +26,12 @@ use Rattle.airbyte_message.specs.declared.message.TraceMsg.TheVariants as trace
 use Rattle.catalog.specs.Reading.{ids_of}
 use Rattle.catalog.specs.declared.stream.ConfStream.{ConfStream}
 use Rattle.load_rules.specs.Lines.{Reading, lines_read, passes, state_in}
-use Rattle.load_rules.specs.Taken.{LaneState}
 use Rattle.load_rules.specs.Attempts.{gives, gots, passed, reads}
 use Rattle.load_rules.specs.Engine.{is_ended}
 use Rattle.load_rules.specs.Prefixes.{IsPrefix}
 use Rattle.sync_rules.specs.Calls.{Call, OwesNothing}
 use Rattle.sync_rules.specs.Breaches.{AreUnbroken}
-use Rattle.sync_rules.specs.Sync.{Running, Takes, and_event, texts, with_event}
+use Rattle.sync_rules.specs.Sync.{Running, and_event, texts, with_event}
 use Rattle.sync_rules.specs.Steps.{InAttempt}
 use Rattle.sync_rules.proofs.Taking.{lines_take}
 use Rattle.sync_ledger.specs.Judged.{IsEchoed, IsRefused, RefusesBack}
@@ -42,21 +41,22 @@ use Rattle.sync_ledger.specs.declared.said.Saying.{Saying}
 use Rattle.sync_ledger.specs.declared.said.Saying.TheVariants as saying
 use Rattle.sync_ledger.specs.declared.told.Told.{Told}
 use Rattle.sync_ledger.specs.declared.told.Told.TheVariants as told
-use Rattle.sync_ledger.specs.declared.verdict.Echoed.{Echoed}
 use Rattle.sync_ledger.specs.declared.verdict.Echoed.TheVariants as echoed
 use Rattle.sync_ledger.specs.declared.notes.TheConstants.{MOST_LINES}
-use Rattle.ledger_rules.specs.Ledgers.{taken_by}
 use Rattle.ledger_rules.proofs.Stands.{goes_on, refuses}
 use Rattle.attempt_turns.specs.Acts.{Place, does, lines_told, place_after}
-use Rattle.attempt_turns.specs.Ends.{CanStop, Ends, EndsSo, ErrsSo, RefusesBackLast, SaidSo, TurnCause, is_again}
-use Rattle.attempt_turns.specs.Heard.{BackEnds, HalfSaidBack, HearsBack, SaysLines, lines_echoed}
+use Rattle.attempt_turns.specs.Ends.{Ends, EndsSo, SaidSo, TurnCause, is_again}
+use Rattle.attempt_turns.specs.Heard.{BackEnds, HalfSaidBack, HearsBack, SaysLines}
 use Rattle.attempt_turns.specs.History.{Ran}
+use Rattle.attempt_turns.specs.Silence.{Steps}
+use Rattle.attempt_turns.specs.declared.worker.Moved.TheVariants as moved
 use Rattle.attempt_turns.specs.Worker.{ComesBack, HasCode, HasGot, IsOn, Stands, is_error, is_error_saying, is_error_told, source_held}
 use Rattle.attempt_turns.specs.declared.worker.Worker.{Worker}
+use Rattle.attempt_turns.proofs.Placed.{placed_on}
 use Rattle.attempt_turns.proofs.Lists.{any_one, each_one, got_over_one, gots_one, same_gives, same_gots, same_reads}
 use Rattle.attempt_turns.proofs.ReadLemmas.{answer_only}
-use Rattle.attempt_turns.proofs.EndLemmas.{clean, desk_same, ends_way, less_same, no_events, none_said, owes_nothing, rightly}
-use Rattle.attempt_turns.proofs.BackLemmas.{Came, Heard, IsBack, back_worker, came, echoed_told, got_place, heard_lines, heard_so, no_state, on_back, owes_none}
+use Rattle.attempt_turns.proofs.EndLemmas.{clean, desk_same, ends_way, less_same, no_events, none_said, rightly}
+use Rattle.attempt_turns.proofs.BackLemmas.{Came, IsBack, came, echoed_told, got_place, heard_lines, heard_so, no_state, on_back, owes_none}
 use Rattle.attempt_turns.proofs.LiveLemmas.{got_over_worker}
 use Rattle.attempt_turns.proofs.Ways.{grew_none}
 
@@ -116,18 +116,18 @@ lacked_back w now text seen desk_old desk_new number says code = record {
   grew = grew_none seen;
   desk = says.keeps;
   leads = λ call streams read here said reading has.
-    let own = came text w call streams read here said has in (
-      here,
-      refl,
-      ends_got status.NoMemory seen.face text w now call streams read here said [] own (record {
-        kept = refl;
-        number = number;
-        code = code;
-        so = tt;
-        paid = tt;
-        said_so = (lines_told (echoed_told read text), ap (λ list. list ++ lines_told (echoed_told read text)) (own.stood.said_all ∙ sym (append-nil said)));
-      }),
-    );
+      let own = came text w call streams read here said has in (
+        here,
+        refl,
+        ends_got status.NoMemory seen.face text w now call streams read here said [] own (record {
+          kept = refl;
+          number = number;
+          code = code;
+          so = tt;
+          paid = tt;
+          said_so = (lines_told (echoed_told read text), ap (λ list. list ++ lines_told (echoed_told read text)) (own.stood.said_all ∙ sym (append-nil said)));
+        }),
+      );
 }
 
 -- it was heard, and a part of what is to be said of it was said
@@ -140,18 +140,18 @@ half_said_back w now text seen desk_old desk_new half code = record {
   grew = grew_none seen;
   desk = half.said.keeps;
   leads = λ call streams read here said reading has.
-    let heard = heard_so text half.answer w now call streams read here said half.heard has in (
-      here,
-      refl,
-      ends_got status.SayFault seen.face text w now call streams read here said half.said.front.front heard.came_so (record {
-        kept = refl;
-        number = ap (λ (it : Worker). it.number) half.heard.is;
-        code = code;
-        so = tt;
-        paid = owes_none text half.answer w now call streams read here said heard half.none_taken;
-        said_so = (half.said.front.rest, heard_lines text half.answer w now call streams read here said heard ∙ (ap (λ list. said ++ list) half.said.front.splits ∙ sym (append_assoc said half.said.front.front half.said.front.rest)));
-      }),
-    );
+      let heard = heard_so text half.answer w now call streams read here said half.heard has in (
+        here,
+        refl,
+        ends_got status.SayFault seen.face text w now call streams read here said half.said.front.front heard.came_so (record {
+          kept = refl;
+          number = ap (λ (it : Worker). it.number) half.heard.is;
+          code = code;
+          so = tt;
+          paid = owes_none text half.answer w now call streams read here said heard half.none_taken;
+          said_so = (half.said.front.rest, heard_lines text half.answer w now call streams read here said heard ∙ (ap (λ list. said ++ list) half.said.front.splits ∙ sym (append_assoc said half.said.front.front half.said.front.rest)));
+        }),
+      );
 }
 
 -- ---- the line says that a configuration is wrong
@@ -195,32 +195,32 @@ error_way_back w now text words line seen desk_old desk_new hears number says co
   grew = grew_none seen;
   desk = says.keeps;
   leads = λ call streams read here said reading has.
-    let heard = heard_so text (echoed.ConfigError words) w now call streams read here said hears has in
-    let own = heard.came_so.stood.attempt in
-    let on = heard.came_so.stood.on in (
-      here,
-      refl,
-      ends_got (status.ConfigError side.Dest line) seen.face text w now call streams read here said (words ∷ []) heard.came_so (record {
-        kept = refl;
-        number = ap (λ (it : Worker). it.number) hears.is;
-        code = code;
-        so = record {
-          last = record {
-            front = gots own.events;
-            text = text;
-            last = gots_one own.events (Got text);
-            is = error_back w.ledger now.ledger (echoed_told read text) words heard.echoed_so;
-            no_error = on.none_ends.no_error_back;
-            number = number ∙ (ap (λ (it : Worker). it.got_lines) hears.is ∙ got_number w own.events text on.got_lines);
+      let heard = heard_so text (echoed.ConfigError words) w now call streams read here said hears has in
+      let own = heard.came_so.stood.attempt in
+      let on = heard.came_so.stood.on in (
+        here,
+        refl,
+        ends_got (status.ConfigError side.Dest line) seen.face text w now call streams read here said (words ∷ []) heard.came_so (record {
+          kept = refl;
+          number = ap (λ (it : Worker). it.number) hears.is;
+          code = code;
+          so = record {
+            last = record {
+              front = gots own.events;
+              text = text;
+              last = gots_one own.events (Got text);
+              is = error_back w.ledger now.ledger (echoed_told read text) words heard.echoed_so;
+              no_error = on.none_ends.no_error_back;
+              number = number ∙ (ap (λ (it : Worker). it.got_lines) hears.is ∙ got_number w own.events text on.got_lines);
+            };
+            other = no_source_error w streams read own text on;
+            unbroken = unbroken_got w streams read own text on;
+            come_back = each_one (ComesBack read) [] own.events (Got text) on.none_ends.come_back (inl (error_comes w.ledger now.ledger read text words heard.echoed_so));
           };
-          other = no_source_error w streams read own text on;
-          unbroken = unbroken_got w streams read own text on;
-          come_back = each_one (ComesBack read) [] own.events (Got text) on.none_ends.come_back (inl (error_comes w.ledger now.ledger read text words heard.echoed_so));
-        };
-        paid = owes_none text (echoed.ConfigError words) w now call streams read here said heard refl;
-        said_so = heard_lines text (echoed.ConfigError words) w now call streams read here said heard;
-      }),
-    );
+          paid = owes_none text (echoed.ConfigError words) w now call streams read here said heard refl;
+          said_so = heard_lines text (echoed.ConfigError words) w now call streams read here said heard;
+        }),
+      );
 }
 
 -- ---- the line is refused
@@ -336,44 +336,50 @@ first_back_end (Some events) over going is = ap (λ b. Some (events ++ cond b []
 end_back : IsBack GotEnd
 end_back = record { none_read = refl; none_given = refl; not_ended = refl; not_closed = refl; same_over = λ b. refl }
 
-pub end_way_back : (w : Worker) (old new : Seen) (desk : DeskSeen) → w.got_over ≡ false → own_events new ≡ told_more (GotEnd ∷ []) (own_events old) → Grew old new → Ran (Stands w) (Stands (got_over_worker w)) old new desk desk
-end_way_back w old new desk going added grew = record {
-  acts = does GotEnd ∷ [];
-  lines = [];
-  added = added;
-  said = none_said desk;
-  grew = grew;
-  desk = desk_same desk;
-  leads = λ call streams read here said reading stands. (
-    place_after read here GotEnd (with_event GotEnd here.standing.sync),
-    (
-      with_event GotEnd here.standing.sync,
-      (subst (λ it. InAttempt it (λ attempt. got_over attempt.events ≡ false)) (sym stands.runs) (stands.on.going, stands.on.got_so ∙ going), refl),
-      subst (λ (n : ℕ). 0 < n) (sym stands.is_last.number) stands.is_last.positive,
-      record { works = stands.is_last.works; order = stands.is_last.number ∙ sym stands.is_last.ended },
-      refl,
-    ),
-    record {
-      is_last = record { begun = stands.is_last.begun; number = stands.is_last.number; positive = stands.is_last.positive; ended = stands.is_last.ended; works = stands.is_last.works };
-      attempt = and_event GotEnd stands.attempt;
-      runs = ap (option_map (and_event GotEnd)) stands.runs;
-      on = on_end streams read stands.attempt stands.on;
-      set = stands.set;
-      none_owed = stands.none_owed;
-      said_all = ap (λ list. list ++ []) stands.said_all;
-    },
-  );
+pub back_end_step : (w : Worker) (old new : Seen) (desk : DeskSeen) → w.got_over ≡ false → own_events new ≡ told_more (GotEnd ∷ []) (own_events old) → Grew old new → Steps moved.Yes (Stands w) (Stands (got_over_worker w)) old new desk desk
+back_end_step w old new desk going added grew = record {
+  ran = record {
+    acts = does GotEnd ∷ [];
+    lines = [];
+    added = added;
+    said = none_said desk;
+    grew = grew;
+    desk = desk_same desk;
+    leads = λ call streams read here said reading stands. (
+      place_after read here GotEnd (with_event GotEnd here.standing.sync),
+      (
+        with_event GotEnd here.standing.sync,
+        (subst (λ it. InAttempt it (λ attempt. got_over attempt.events ≡ false)) (sym stands.runs) (stands.on.going, stands.on.got_so ∙ going), refl),
+        subst (λ (n : ℕ). 0 < n) (sym stands.is_last.number) stands.is_last.positive,
+        record { works = stands.is_last.works; order = stands.is_last.number ∙ sym stands.is_last.ended },
+        refl,
+      ),
+      record {
+        is_last = record { begun = stands.is_last.begun; number = stands.is_last.number; positive = stands.is_last.positive; ended = stands.is_last.ended; works = stands.is_last.works };
+        attempt = and_event GotEnd stands.attempt;
+        runs = ap (option_map (and_event GotEnd)) stands.runs;
+        on = on_end streams read stands.attempt stands.on;
+        set = stands.set;
+        none_owed = stands.none_owed;
+        said_all = ap (λ list. list ++ []) stands.said_all;
+      },
+    );
+  };
+  are = inl refl;
 }
   where
     on_end : (streams : List ConfStream) (read : Reading) (own : Running) → IsOn w streams read own → IsOn (got_over_worker w) streams read (and_event GotEnd own)
-    on_end streams read own on = on_back w w.ledger w.set w.got_lines true streams read own GotEnd (record {
-      back = end_back;
-      right = tt;
-      ledger_is = goes_on (ids_of streams) own.start read own.events (source_held w) w.ledger GotEnd (record { none_read = refl; none_given = refl; none_got = refl }) on.ledger;
-      kept = on.kept;
-      fits = record { has_streams = on.set_fits.has_streams; of_streams = on.set_fits.of_streams; of_all = on.set_fits.of_all };
-      no_error = ap (list_any (is_error side.Dest read)) (same_gots own.events GotEnd refl) ∙ on.none_ends.no_error_back;
-      comes = tt;
-      got_so = got_over_one own.events GotEnd;
-      number = on.got_lines ∙ ap length (sym (same_gots own.events GotEnd refl));
-    }) on
+    on_end streams read own on =
+        let ledger = goes_on (ids_of streams) own.start read own.events (source_held w) w.ledger GotEnd (record { none_read = refl; none_given = refl; none_got = refl }) on.ledger in
+        on_back w w.ledger w.set w.got_lines true streams read own GotEnd (record {
+          back = end_back;
+          right = tt;
+          ledger_is = ledger;
+          placed = placed_on (ids_of streams) read own.events (source_held w) w.ledger own.start GotEnd refl refl ledger on.placed;
+          kept = on.kept;
+          fits = record { has_streams = on.set_fits.has_streams; of_streams = on.set_fits.of_streams; of_all = on.set_fits.of_all };
+          no_error = ap (list_any (is_error side.Dest read)) (same_gots own.events GotEnd refl) ∙ on.none_ends.no_error_back;
+          comes = tt;
+          got_so = got_over_one own.events GotEnd;
+          number = on.got_lines ∙ ap length (sym (same_gots own.events GotEnd refl));
+        }) on

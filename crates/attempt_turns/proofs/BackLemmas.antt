@@ -1,16 +1,17 @@
 -- A line comes back and is heard.
-use Rattle.std.proofs.Common.{arith, ◌≡◌, ◌⊎◌, inl, inr, ℕ, ◌+◌, ◌<◌, ◌≤◌, List, [], ◌∷◌, ◌++◌, Bool, true, false, cond, Option, None, Some, refl, sym, ◌∙◌, ap, subst, append_assoc, append-nil, length, length-append}
+use Rattle.std.proofs.Common.{◌≡◌, inl, inr, ℕ, ◌+◌, ◌<◌, ◌≤◌, List, [], ◌∷◌, ◌++◌, Bool, false, cond, Option, None, Some, Result, Ok, Err, refl, sym, ◌∙◌, ap, subst, append_assoc, append-nil, length, length-append}
 use Rattle.std.specs.Prelude.{drop, filter, is_none, map, option_map, option_to_list}
 use Rattle.std.specs.List.{list_any}
-use Rattle.std.proofs.lemmas.Bool.{false≢true}
+use Rattle.std.specs.Result.{IfErr, OnOk}
 use Rattle.basics.specs.declared.stream.StreamId.{StreamId}
 use Rattle.basics.specs.Told.{told_more}
 use Rattle.outside.specs.Desk.{DeskSeen}
-use Rattle.outside.specs.Event.{got_in, given_in, got_over, read_in, read_over, read_over_after}
+use Rattle.outside.specs.Event.{given_in, got_over, read_in, read_over, read_over_after}
 use Rattle.outside.specs.Link.{Seen, Grew, own_events}
 use Rattle.outside.specs.declared.event.Event.{Event}
-use Rattle.outside.specs.declared.event.Event.TheVariants.{Closed, Got, GotEnd}
+use Rattle.outside.specs.declared.event.Event.TheVariants.{Closed, Got}
 use Rattle.outside.specs.declared.faults.Side.TheVariants as side
+use Rattle.outside.specs.declared.status.Status.{Status}
 use Rattle.airbyte_message.specs.Messages.{IsMessage}
 use Rattle.airbyte_message.specs.State.{State as StateMsg}
 use Rattle.airbyte_message.specs.declared.message.Message.{Message}
@@ -18,7 +19,6 @@ use Rattle.airbyte_message.specs.declared.message.Message.TheVariants as message
 use Rattle.catalog.specs.Reading.{ids_of}
 use Rattle.catalog.specs.declared.stream.ConfStream.{ConfStream}
 use Rattle.dedup_merge.proofs.SameRowLemmas.{Has, has_to}
-use Rattle.load_rules.specs.Prefixes.{EachFits}
 use Rattle.load_rules.specs.Lines.{Reading, ReadsEvent, ReadsText, lines_read, passes, state_in}
 use Rattle.load_rules.specs.Taken.{LaneState, states}
 use Rattle.load_rules.specs.Finished.{last_status}
@@ -28,9 +28,8 @@ use Rattle.state_kinds.specs.Saved.{Saved}
 use Rattle.state_kinds.specs.Changes.{put_into}
 use Rattle.sync_rules.specs.Calls.{Call}
 use Rattle.sync_rules.specs.Generations.{generations_in}
-use Rattle.sync_rules.specs.SafeSync.{nothing, IsAsked}
-use Rattle.sync_rules.specs.Steps.{Gets, InAttempt, Step}
-use Rattle.sync_rules.specs.Sync.{Running, Sync, Takes, and_event, completion, got, texts, to_give, untold}
+use Rattle.sync_rules.specs.Steps.{Gets, InAttempt}
+use Rattle.sync_rules.specs.Sync.{Running, Takes, and_event, completion, got, texts, to_give, untold}
 use Rattle.sync_rules.proofs.KindLemmas.{some_is, some_none}
 use Rattle.sync_rules.proofs.Taking.{lines_take}
 use Rattle.sync_ledger.specs.Judged.{Echoes, IsEchoed}
@@ -45,15 +44,18 @@ use Rattle.sync_ledger.specs.declared.verdict.Echoed.TheVariants as echoed
 use Rattle.sync_ledger.specs.declared.notes.TheConstants.{MOST_LINES}
 use Rattle.ledger_rules.specs.Ledgers.{IsLedgerOf, state_taken, taken_by}
 use Rattle.ledger_rules.proofs.Stands.{gets, takes}
-use Rattle.attempt_turns.specs.Acts.{Place, does, lines_of, lines_saying, lines_told, place_after}
+use Rattle.attempt_turns.specs.Acts.{Place, does, lines_saying, lines_told, place_after}
+use Rattle.attempt_turns.specs.Ends.{Ends}
 use Rattle.attempt_turns.specs.Heard.{GoesOnBack, HeardBack, HearsBack, lines_echoed}
-use Rattle.attempt_turns.specs.History.{Ran}
-use Rattle.attempt_turns.specs.Worker.{ClosedBehind, ComesBack, HasGot, IsOn, Owes, SetFits, Stands, is_error, is_error_saying, is_error_told, left_to_give, source_held, untold_from}
+use Rattle.attempt_turns.specs.History.{Ran, RanSo}
+use Rattle.attempt_turns.specs.Placed.{ArePlaced}
+use Rattle.attempt_turns.specs.Worker.{ClosedBehind, ComesBack, HasGot, IsOn, Owes, SetFits, Stands, is_error, is_error_saying, is_error_told, left_to_give, source_held}
 use Rattle.attempt_turns.specs.declared.worker.Worker.{Worker}
-use Rattle.attempt_turns.proofs.Lists.{any_one, each_one, got_over_one, gots_one, read_over_one, reading_one, same_gives, same_gots, same_reads}
+use Rattle.attempt_turns.proofs.Placed.{placed_got}
+use Rattle.attempt_turns.proofs.Lists.{any_one, each_one, got_over_one, gots_one, read_over_one, reading_one, same_gives, same_reads}
 use Rattle.attempt_turns.proofs.ReadLemmas.{answer_only}
 use Rattle.attempt_turns.proofs.EndLemmas.{desk_same, no_events, none_said}
-use Rattle.attempt_turns.proofs.Ways.{grew_none}
+use Rattle.attempt_turns.proofs.Ways.{grew_none, ran_then}
 use Rattle.attempt_turns.proofs.PutLemmas.{can_take, put_set, puts_so}
 use Rattle.attempt_turns.proofs.TakenLemmas.{given_passed, taken_among}
 
@@ -99,6 +101,7 @@ pub record BackSo (w : Worker) (ledger : Noted) (set : Saved) (got_lines : ℕ) 
   pub back : IsBack event
   pub right : ReadsEvent read event
   pub ledger_is : IsLedgerOf (ids_of streams) own.start read (own.events ++ event ∷ []) (source_held w) ledger
+  pub placed : ArePlaced (ids_of streams) read (own.events ++ event ∷ []) (source_held w) ledger
   pub kept : generations_in set ≡ generations_in own.start
   pub fits : SetFits (back_worker w ledger set got_lines over) streams
   pub no_error : list_any (is_error side.Dest read) (gots (own.events ++ event ∷ [])) ≡ false
@@ -114,6 +117,7 @@ on_back w ledger set got_lines over streams read own event so on =
       orderly = on.orderly;
       reading = reading_one read events event on.reading so.right;
       ledger = so.ledger_is;
+      placed = so.placed;
       start = on.start;
       kept = so.kept;
       set_fits = so.fits;
@@ -152,12 +156,12 @@ pub record Came (text : List ℕ) (w : Worker) (call : Call) (streams : List Con
   pub takes : Takes read stood.attempt.events text owed
   pub is : here ≡ got_place read before text owed
 
-in_attempt : {P : Running → Type 0} (own : Option Running) (attempt : Running) → own ≡ Some attempt → InAttempt own P → (list_any is_ended attempt.events ≡ false) × P attempt
-in_attempt {P} own attempt runs is = subst (λ it. InAttempt it P) runs is
+in_attempt : (P : Running → Type 0) (own : Option Running) (attempt : Running) → own ≡ Some attempt → InAttempt own P → (list_any is_ended attempt.events ≡ false) × P attempt
+in_attempt P own attempt runs is = subst (λ it. InAttempt it P) runs is
 
 pub came : (text : List ℕ) (w : Worker) (call : Call) (streams : List ConfStream) (read : Reading) (here : Place) (said : List (List ℕ)) → HasGot text w call streams read here said → Came text w call streams read here said
 came text w call streams read here said has =
-    let gets_so = in_attempt {Gets read has.before.standing.sync text has.now} has.before.standing.sync.attempt has.stood.attempt has.stood.runs has.steps in
+    let gets_so = in_attempt (Gets read has.before.standing.sync text has.now) has.before.standing.sync.attempt has.stood.attempt has.stood.runs has.steps in
     record {
       before = has.before;
       stood = has.stood;
@@ -168,45 +172,45 @@ came text w call streams read here said has =
     }
 
 -- it is polled
-pub polled_way : (w : Worker) (text : List ℕ) (old new : Seen) (desk : DeskSeen) → w.got_over ≡ false → own_events new ≡ told_more (Got text ∷ []) (own_events old) → Grew old new → Ran (Stands w) (HasGot text w) old new desk desk
+pub polled_way : (w : Worker) (text : List ℕ) (old new : Seen) (desk : DeskSeen) → w.got_over ≡ false → own_events new ≡ told_more (Got text ∷ []) (own_events old) → Grew old new → RanSo (λ acts. acts ≡ does (Got text) ∷ []) (Stands w) (HasGot text w) old new desk desk
 polled_way w text old new desk going added grew = record {
-  acts = does (Got text) ∷ [];
-  lines = [];
-  added = added;
-  said = none_said desk;
-  grew = grew;
-  desk = desk_same desk;
-  leads = λ call streams read here said reading stands.
-    let owed = lines_take.some read stands.attempt.events text in
-    let steps = may_get w call streams read here said text owed.0 stands owed.1 in (
-      got_place read here text owed.0,
-      (
-        got text owed.0 here.standing.sync,
-        steps,
-        subst (λ (n : ℕ). 0 < n) (sym stands.is_last.number) stands.is_last.positive,
-        record { works = stands.is_last.works; order = stands.is_last.number ∙ sym stands.is_last.ended },
-        refl,
-      ),
-      subst (λ list. HasGot text w call streams read (got_place read here text owed.0) list) (sym (append-nil said)) (record {
-        before = here;
-        stood = stands;
-        now = got text owed.0 here.standing.sync;
-        steps = steps;
-        reads = reading.0;
-        is = refl;
-      }),
-    );
+  ran = record {
+    acts = does (Got text) ∷ [];
+    lines = [];
+    added = added;
+    said = none_said desk;
+    grew = grew;
+    desk = desk_same desk;
+    leads = λ call streams read here said reading stands.
+        let owed = lines_take.some read stands.attempt.events text in
+        let steps = may_get call streams read here said owed.0 stands owed.1 in (
+          got_place read here text owed.0,
+          (
+            got text owed.0 here.standing.sync,
+            steps,
+            subst (λ (n : ℕ). 0 < n) (sym stands.is_last.number) stands.is_last.positive,
+            record { works = stands.is_last.works; order = stands.is_last.number ∙ sym stands.is_last.ended },
+            refl,
+          ),
+          subst (λ list. HasGot text w call streams read (got_place read here text owed.0) list) (sym (append-nil said)) (record {
+            before = here;
+            stood = stands;
+            now = got text owed.0 here.standing.sync;
+            steps = steps;
+            reads = reading.0;
+            is = refl;
+          }),
+        );
+  };
+  are = refl;
 }
   where
-    may_get : (w : Worker) (call : Call) (streams : List ConfStream) (read : Reading) (here : Place) (said : List (List ℕ)) (text : List ℕ) (owed : Option LaneState) (stands : Stands w call streams read here said) → Takes read stands.attempt.events text owed
+    may_get : (call : Call) (streams : List ConfStream) (read : Reading) (here : Place) (said : List (List ℕ)) (owed : Option LaneState) (stands : Stands w call streams read here said) → Takes read stands.attempt.events text owed
         → InAttempt here.standing.sync.attempt (Gets read here.standing.sync text (got text owed here.standing.sync))
-    may_get w call streams read here said text owed stands takes_it = subst (λ it. InAttempt it (Gets read here.standing.sync text (got text owed here.standing.sync))) (sym stands.runs) (
+    may_get call streams read here said owed stands takes_it = subst (λ it. InAttempt it (Gets read here.standing.sync text (got text owed here.standing.sync))) (sym stands.runs) (
       stands.on.going,
-      record { going = stands.on.got_so ∙ going_of; none_owed = stands.none_owed; owed = owed; takes = takes_it; is = refl },
+      record { going = stands.on.got_so ∙ going; none_owed = stands.none_owed; owed = owed; takes = takes_it; is = refl },
     )
-      where
-        going_of : w.got_over ≡ false
-        going_of = going
 
 -- ---- what is heard of it
 
@@ -299,10 +303,12 @@ on_got text answer w now call streams read here said goes heard =
     let events = own.events in
     let on = heard.came_so.stood.on in
     let form_same = same_back_form w.ledger now.ledger (echoed_told read text) answer heard.echoed_so in
+    let ledger = gets (ids_of streams) own.start read events (source_held w) w.ledger now.ledger text answer on.ledger heard.echoed_so in
     on_back w now.ledger w.set (w.got_lines + 1) w.got_over streams read own (Got text) (record {
       back = got_back text;
       right = heard.came_so.right;
-      ledger_is = gets (ids_of streams) own.start read events (source_held w) w.ledger now.ledger text answer on.ledger heard.echoed_so;
+      ledger_is = ledger;
+      placed = placed_got (ids_of streams) own.start read events (source_held w) w.ledger now.ledger text answer heard.echoed_so ledger on.placed;
       kept = on.kept;
       fits = record {
         has_streams = on.set_fits.has_streams;
@@ -414,3 +420,40 @@ owes_way text taken w now seen desk_old desk_new heard = record {
   desk = heard.said.keeps;
   leads = λ call streams read here said reading has. (here, refl, owes_got text taken heard.answer w now call streams read here said heard.heard heard.goes_on heard.taken_is has);
 }
+
+-- ---- for the functions
+
+pub heard_state : (w now : Worker) (text : List ℕ) (answer : Echoed) (taken : StateMsg) (desk : DeskSeen) → answer ≡ echoed.State taken → HearsBack w text answer now → HeardBack w text (Some taken) now desk desk
+heard_state w now text answer taken desk is hears = record {
+  answer = answer;
+  heard = hears;
+  goes_on = subst GoesOnBack (sym is) tt;
+  taken_is = ap taken_by is;
+  said = record { said = subst (λ it. desk.said ≡ told_more (lines_echoed it) desk.said) (sym is) (none_said desk); keeps = desk_same desk };
+}
+
+pub heard_nothing : (w now : Worker) (text : List ℕ) (answer : Echoed) (desk : DeskSeen) → answer ≡ echoed.Nothing → HearsBack w text answer now → HeardBack w text None now desk desk
+heard_nothing w now text answer desk is hears = record {
+  answer = answer;
+  heard = hears;
+  goes_on = subst GoesOnBack (sym is) tt;
+  taken_is = ap taken_by is;
+  said = record { said = subst (λ it. desk.said ≡ told_more (lines_echoed it) desk.said) (sym is) (none_said desk); keeps = desk_same desk };
+}
+
+pub goes_heard : (text : List ℕ) (found : Option StateMsg) (w now : Worker) (seen : Seen) (desk_old desk_new : DeskSeen) → found ≡ None → HeardBack w text found now desk_old desk_new → Ran (HasGot text w) (Stands now) seen seen desk_old desk_new
+goes_heard text found w now seen desk_old desk_new is heard = goes_way text w now seen desk_old desk_new (subst (λ it. HeardBack w text it now desk_old desk_new) is heard)
+
+owes_heard : (text : List ℕ) (taken : StateMsg) (found : Option StateMsg) (w now : Worker) (seen : Seen) (desk_old desk_new : DeskSeen) → found ≡ Some taken → HeardBack w text found now desk_old desk_new → Ran (HasGot text w) (Owes taken now) seen seen desk_old desk_new
+owes_heard text taken found w now seen desk_old desk_new is heard = owes_way text taken w now seen desk_old desk_new (subst (λ it. HeardBack w text it now desk_old desk_new) is heard)
+
+-- it was heard, and then what it takes was saved, or that ended the attempt
+pub back_saved : {T : Type 0} (result : Result T Status) (text : List ℕ) (taken : StateMsg) (found : Option StateMsg) (w mid now : Worker) (old new : Seen) (d e f : DeskSeen) → found ≡ Some taken → HeardBack w text found mid d e → OnOk result (Ran (Owes taken mid) (Stands now) old new e f)
+    → OnOk result (Ran (HasGot text w) (Stands now) old new d f)
+back_saved (Ok done) text taken found w mid now old new d e f is heard saves = ran_then (HasGot text w) (Owes taken mid) (Stands now) old old new d e f (owes_heard text taken found w mid old d e is heard) saves
+back_saved (Err end) text taken found w mid now old new d e f is heard saves = tt
+
+pub back_unsaved : {T : Type 0} (result : Result T Status) (text : List ℕ) (taken : StateMsg) (found : Option StateMsg) (w mid now : Worker) (old new : Seen) (d e f : DeskSeen) → found ≡ Some taken → HeardBack w text found mid d e → IfErr result (λ end. Ran (Owes taken mid) (Ends end new.face now) old new e f)
+    → IfErr result (λ end. Ran (HasGot text w) (Ends end new.face now) old new d f)
+back_unsaved (Ok done) text taken found w mid now old new d e f is heard ends = tt
+back_unsaved (Err end) text taken found w mid now old new d e f is heard ends = ran_then (HasGot text w) (Owes taken mid) (Ends end new.face now) old old new d e f (owes_heard text taken found w mid old d e is heard) ends

@@ -51,6 +51,8 @@ use Rattle.ledger_rules.proofs.Judges.{judges, ok_is}
 use Rattle.ledger_rules.proofs.Stands.{reads_on}
 use Rattle.attempt_turns.specs.Acts.{does, Place, is_refused, lines_of, lines_told, reads_in}
 use Rattle.attempt_turns.specs.History.{KeepsDesk, Ran}
+use Rattle.attempt_turns.specs.Silence.{Steps}
+use Rattle.attempt_turns.specs.declared.worker.Moved.TheVariants as moved
 use Rattle.attempt_turns.specs.Ends.{CanStop, Ends, EndsSo, ErrsSo, IsClean, Knows, RefusesLast, SaidSo, TooManyRead, TurnCause, is_again}
 use Rattle.attempt_turns.specs.Heard.{HalfSaid, HearsSource, LineEnds, SaysLines, lines_answered}
 use Rattle.attempt_turns.specs.Worker.{ComesBack, HasCode, IsOn, IsReadable, Live, Stands, is_error, is_error_saying, is_error_told, source_held}
@@ -73,11 +75,11 @@ all_said end asked said same = same
 pub clean : (w : Worker) (streams : List ConfStream) (read : Reading) (own : Running) → IsOn w streams read own → IsClean (ids_of streams) read own
 clean w streams read own on = record { unbroken = on.ledger.unbroken; none_ends = on.none_ends }
 
-less_same : (m n : ℕ) → m ≡ n → m < n → ⊥
+pub less_same : (m n : ℕ) → m ≡ n → m < n → ⊥
 less_same m n same less = omega (arith, same, less)
 
 pub given_front : (w : Worker) (streams : List ConfStream) (read : Reading) (own : Running) → IsOn w streams read own → w.is_completing ≡ false → w.completed ≡ 0 → IsPrefix (gives own.events) (texts (passed (ids_of streams) read own.events))
-given_front w streams read own on none zero = (option_to_list w.held, on.own_lines none zero)
+given_front w streams read own on none first = (option_to_list w.held, on.own_lines none first)
 
 -- the code stays known
 pub coded : (w : Worker) (old new : Seen) → Live w old → new.face.codes.source ≡ old.face.codes.source → HasCode w new.face
@@ -157,15 +159,18 @@ ends_way end w old new desk code same grew so = record {
 }
 
 -- nothing was told, and it stands as before
-pub stays_way : (w : Worker) (old new : Seen) (desk : DeskSeen) → own_events new ≡ own_events old → Grew old new → Ran (Stands w) (Stands w) old new desk desk
-stays_way w old new desk same grew = record {
-  acts = [];
-  lines = [];
-  added = no_events old new same;
-  said = none_said desk;
-  grew = grew;
-  desk = desk_same desk;
-  leads = λ call streams read here said reading stands. (here, refl, subst (λ list. Stands w call streams read here list) (sym (append-nil said)) stands);
+pub stays_step : (w : Worker) (old new : Seen) (desk : DeskSeen) → own_events new ≡ own_events old → Grew old new → Steps moved.No (Stands w) (Stands w) old new desk desk
+stays_step w old new desk same grew = record {
+  ran = record {
+    acts = [];
+    lines = [];
+    added = no_events old new same;
+    said = none_said desk;
+    grew = grew;
+    desk = desk_same desk;
+    leads = λ call streams read here said reading stands. (here, refl, subst (λ list. Stands w call streams read here list) (sym (append-nil said)) stands);
+  };
+  are = refl;
 }
 
 -- ---- behind a line that was read

@@ -1,19 +1,16 @@
 -- The source's output ends.
-use Rattle.std.proofs.Common.{◌≡◌, ◌⊎◌, inl, inr, ℕ, ◌<◌, ◌≤◌, List, [], ◌∷◌, ◌++◌, Bool, true, false, cond, Option, None, Some, IfSome, IsTrue, refl, sym, ◌∙◌, ap, subst, append-nil, length}
+use Rattle.std.proofs.Common.{◌≡◌, inl, ℕ, ◌<◌, ◌≤◌, List, [], ◌∷◌, ◌++◌, Bool, true, false, cond, Option, None, Some, IfSome, refl, sym, ◌∙◌, ap, subst, append-nil, length}
 use Rattle.std.specs.Prelude.{filter, map, option_map, option_to_list}
 use Rattle.std.specs.List.{list_any}
 use Rattle.std.proofs.lemmas.Bool.{false≢true}
 use Rattle.basics.specs.declared.stream.StreamId.{StreamId}
 use Rattle.basics.specs.Told.{told_by, told_more}
 use Rattle.outside.specs.Desk.{DeskSeen}
-use Rattle.outside.specs.Event.{read_over, read_over_after, got_over, got_over_after}
+use Rattle.outside.specs.Event.{read_over}
 use Rattle.outside.specs.Link.{Seen, Grew, own_events}
 use Rattle.outside.specs.declared.event.Event.{Event}
-use Rattle.outside.specs.declared.event.Event.TheVariants.{ReadEnd, ReadLine}
+use Rattle.outside.specs.declared.event.Event.TheVariants.{ReadEnd}
 use Rattle.outside.specs.declared.faults.Side.TheVariants as side
-use Rattle.outside.specs.declared.link.LinkFace.{LinkFace}
-use Rattle.outside.specs.declared.link.PollKind.{PollKind}
-use Rattle.outside.specs.declared.link.PollKind.TheVariants as kind
 use Rattle.catalog.specs.Reading.{ids_of}
 use Rattle.catalog.specs.declared.stream.ConfStream.{ConfStream}
 use Rattle.load_rules.specs.Lines.{Reading, lines_read, passes}
@@ -23,10 +20,11 @@ use Rattle.sync_rules.specs.Sync.{Running, and_event, completion, texts, to_give
 use Rattle.sync_ledger.specs.declared.notes.TheConstants.{MOST_LINES}
 use Rattle.ledger_rules.proofs.Stands.{goes_on}
 use Rattle.attempt_turns.specs.Acts.{does, place_after}
-use Rattle.attempt_turns.specs.History.{Ran}
-use Rattle.attempt_turns.specs.Heard.{HeardSource}
+use Rattle.attempt_turns.specs.Silence.{Steps}
+use Rattle.attempt_turns.specs.declared.worker.Moved.TheVariants as moved
 use Rattle.attempt_turns.specs.Worker.{ComesBack, IsOn, IsReadable, Live, Stands, is_error, left_to_give, source_held, untold_from}
 use Rattle.attempt_turns.specs.declared.worker.Worker.{Worker}
+use Rattle.attempt_turns.proofs.Placed.{placed_on}
 use Rattle.attempt_turns.proofs.Lists.{any_one, each_one, got_over_one, read_over_one, reading_one, same_gives, same_gots, same_reads}
 use Rattle.attempt_turns.proofs.ReadLemmas.{no_completions, none_left, runs_on}
 use Rattle.attempt_turns.proofs.EndLemmas.{desk_same, none_said}
@@ -60,10 +58,12 @@ on_end w streams read own readable on =
     let ids = ids_of streams in
     let events = own.events in
     let none = on.reads_first readable.going in
+    let ledger = goes_on ids own.start read events (source_held w) w.ledger ReadEnd (record { none_read = refl; none_given = refl; none_got = refl }) on.ledger in
     record {
       orderly = on.orderly;
       reading = reading_one read events ReadEnd on.reading tt;
-      ledger = goes_on ids own.start read events (source_held w) w.ledger ReadEnd (record { none_read = refl; none_given = refl; none_got = refl }) on.ledger;
+      ledger = ledger;
+      placed = placed_on ids read events (source_held w) w.ledger own.start ReadEnd refl refl ledger on.placed;
       start = on.start;
       kept = on.kept;
       set_fits = record { has_streams = on.set_fits.has_streams; of_streams = on.set_fits.of_streams; of_all = on.set_fits.of_all };
@@ -84,31 +84,34 @@ on_end w streams read own readable on =
       own_lines = λ is_none zero. ap (λ list. texts (filter (λ line. passes ids line.found) (lines_read read list))) (same_reads events ReadEnd refl) ∙ (on.own_lines is_none zero ∙ ap (λ list. list ++ option_to_list w.held) (sym (same_gives events ReadEnd refl)));
     }
 
-pub end_way : (w : Worker) (old new : Seen) (desk : DeskSeen) → IsReadable w → Live w old → own_events new ≡ told_by (λ events. cond (read_over events) [] (ReadEnd ∷ [])) (own_events old) → Grew old new → Ran (Stands w) (Stands (over_worker w)) old new desk desk
-end_way w old new desk readable live added grew = record {
-  acts = does ReadEnd ∷ [];
-  lines = [];
-  added = added ∙ first_end (own_events old) w.read_over readable.going live.read_told;
-  said = none_said desk;
-  grew = grew;
-  desk = desk_same desk;
-  leads = λ call streams read here said reading stands. (
-    place_after read here ReadEnd (with_event ReadEnd here.standing.sync),
-    (
-      with_event ReadEnd here.standing.sync,
-      (runs_on here.standing.sync.attempt stands.attempt stands.runs stands.on.going (stands.on.read_so ∙ readable.going), refl),
-      subst (λ (n : ℕ). 0 < n) (sym stands.is_last.number) stands.is_last.positive,
-      record { works = stands.is_last.works; order = stands.is_last.number ∙ sym stands.is_last.ended },
-      refl,
-    ),
-    record {
-      is_last = record { begun = stands.is_last.begun; number = stands.is_last.number; positive = stands.is_last.positive; ended = stands.is_last.ended; works = stands.is_last.works };
-      attempt = and_event ReadEnd stands.attempt;
-      runs = ap (option_map (and_event ReadEnd)) stands.runs;
-      on = on_end w streams read stands.attempt readable stands.on;
-      set = stands.set;
-      none_owed = stands.none_owed;
-      said_all = ap (λ list. list ++ []) stands.said_all;
-    },
-  );
+pub end_step : (w : Worker) (old new : Seen) (desk : DeskSeen) → IsReadable w → Live w old → own_events new ≡ told_by (λ events. cond (read_over events) [] (ReadEnd ∷ [])) (own_events old) → Grew old new → Steps moved.Yes (Stands w) (Stands (over_worker w)) old new desk desk
+end_step w old new desk readable live added grew = record {
+  ran = record {
+    acts = does ReadEnd ∷ [];
+    lines = [];
+    added = added ∙ first_end (own_events old) w.read_over readable.going live.read_told;
+    said = none_said desk;
+    grew = grew;
+    desk = desk_same desk;
+    leads = λ call streams read here said reading stands. (
+      place_after read here ReadEnd (with_event ReadEnd here.standing.sync),
+      (
+        with_event ReadEnd here.standing.sync,
+        (runs_on here.standing.sync.attempt stands.attempt stands.runs stands.on.going (stands.on.read_so ∙ readable.going), refl),
+        subst (λ (n : ℕ). 0 < n) (sym stands.is_last.number) stands.is_last.positive,
+        record { works = stands.is_last.works; order = stands.is_last.number ∙ sym stands.is_last.ended },
+        refl,
+      ),
+      record {
+        is_last = record { begun = stands.is_last.begun; number = stands.is_last.number; positive = stands.is_last.positive; ended = stands.is_last.ended; works = stands.is_last.works };
+        attempt = and_event ReadEnd stands.attempt;
+        runs = ap (option_map (and_event ReadEnd)) stands.runs;
+        on = on_end w streams read stands.attempt readable stands.on;
+        set = stands.set;
+        none_owed = stands.none_owed;
+        said_all = ap (λ list. list ++ []) stands.said_all;
+      },
+    );
+  };
+  are = inl refl;
 }

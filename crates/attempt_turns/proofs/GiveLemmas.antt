@@ -1,12 +1,12 @@
 -- A line of the source is given.
-use Rattle.std.proofs.Common.{arith, ◌≡◌, ◌⊎◌, inl, inr, ℕ, zero, suc, ◌<◌, ◌≤◌, List, [], ◌∷◌, ◌++◌, false, cond, Option, None, Some, IfSome, IsTrue, refl, sym, ◌∙◌, ap, subst, append-nil, length}
+use Rattle.std.proofs.Common.{◌≡◌, inl, ℕ, ◌<◌, ◌≤◌, List, [], ◌∷◌, ◌++◌, false, cond, Option, None, Some, refl, sym, ◌∙◌, ap, subst, append-nil, length}
 use Rattle.std.specs.Prelude.{filter, map, option_map, option_to_list, is_none, drop}
 use Rattle.std.specs.List.{list_any}
 use Rattle.std.proofs.lemmas.Bool.{false≢true}
 use Rattle.basics.specs.declared.stream.StreamId.{StreamId}
 use Rattle.basics.specs.Told.{told_more}
 use Rattle.outside.specs.Desk.{DeskSeen}
-use Rattle.outside.specs.Event.{read_over, got_over}
+use Rattle.outside.specs.Event.{read_over}
 use Rattle.outside.specs.Link.{Seen, Grew, own_events}
 use Rattle.outside.specs.declared.event.Event.TheVariants.{Given}
 use Rattle.outside.specs.declared.faults.Side.TheVariants as side
@@ -18,26 +18,25 @@ use Rattle.load_rules.specs.Attempts.{gives, passed, reads}
 use Rattle.load_rules.specs.Engine.{is_closed, is_ended}
 use Rattle.sync_rules.specs.Sync.{Running, and_event, completion, texts, to_give, untold, with_event}
 use Rattle.sync_rules.specs.Steps.{GivesNext, InAttempt}
-use Rattle.sync_ledger.specs.Noted.{Noted, gave}
+use Rattle.sync_ledger.specs.Noted.{gave}
 use Rattle.sync_ledger.specs.declared.notes.TheConstants.{MOST_LINES}
 use Rattle.ledger_rules.specs.Ledgers.{IsLedgerOf}
 use Rattle.ledger_rules.proofs.Stands.{gives as ledger_gives}
-use Rattle.outside.specs.declared.event.Exit.TheVariants.{Code}
 use Rattle.outside.specs.declared.link.LinkFace.{LinkFace}
-use Rattle.outside.specs.declared.status.Status.{Status}
 use Rattle.outside.specs.declared.status.Status.TheVariants as status
-use Rattle.load_rules.specs.Prefixes.{IsPrefix}
-use Rattle.sync_rules.specs.Calls.{Call}
-use Rattle.attempt_turns.specs.Acts.{Place, does, place_after}
-use Rattle.attempt_turns.specs.Ends.{CanStop, Ends, EndsSo}
+use Rattle.attempt_turns.specs.Acts.{does, place_after}
+use Rattle.attempt_turns.specs.Ends.{Ends}
 use Rattle.attempt_turns.specs.History.{Ran}
+use Rattle.attempt_turns.specs.Silence.{Steps}
+use Rattle.attempt_turns.specs.declared.worker.Moved.TheVariants as moved
+use Rattle.attempt_turns.specs.Placed.{ArePlaced}
 use Rattle.attempt_turns.proofs.LiveLemmas.{given_worker}
 use Rattle.attempt_turns.specs.Worker.{ComesBack, IsOn, Live, Stands, is_error, left_to_give}
 use Rattle.attempt_turns.specs.declared.worker.Worker.{Worker}
+use Rattle.attempt_turns.proofs.Placed.{placed_given}
 use Rattle.attempt_turns.proofs.Lists.{any_one, each_one, gives_one, got_over_one, read_over_one, reading_one, same_gots, same_reads}
 use Rattle.attempt_turns.proofs.ReadLemmas.{not_completing}
-use Rattle.attempt_turns.proofs.EndLemmas.{coded, desk_same, failed_way, lacked_way, none_said, stays_way, unfinished_open}
-use Rattle.attempt_turns.proofs.Ways.{grew_none}
+use Rattle.attempt_turns.proofs.EndLemmas.{coded, desk_same, failed_way, lacked_way, none_said, unfinished_open}
 
 -- what is to be given is the same, and the line is no more held
 give_next : (ids : List StreamId) (read : Reading) (w : Worker) (own : Running) (text : List ℕ) → w.held ≡ Some text → to_give ids read own.events ≡ (gives own.events ++ option_to_list w.held) ++ left_to_give w ids read own.events
@@ -57,11 +56,15 @@ gives_on : (w : Worker) (streams : List ConfStream) (read : Reading) (own : Runn
 gives_on w streams read own text right held own_line opened on =
     let ids = ids_of streams in
     let events = own.events in
+    let held_is = not_completing w w.held own_line ∙ held in
+    let holding = subst (λ line. IsLedgerOf ids own.start read events line w.ledger) held_is on.ledger in
     record {
       orderly = on.orderly;
       reading = reading_one read events (Given text) on.reading right;
       ledger = subst (λ line. IsLedgerOf ids own.start read (events ++ Given text ∷ []) line (gave w.ledger)) (sym (not_completing w None own_line))
-          (ledger_gives ids own.start read events w.ledger text (subst (λ line. IsLedgerOf ids own.start read events line w.ledger) (not_completing w w.held own_line ∙ held) on.ledger));
+          (ledger_gives ids own.start read events w.ledger text holding);
+      placed = subst (λ line. ArePlaced ids read (events ++ Given text ∷ []) line (gave w.ledger)) (sym (not_completing w None own_line))
+          (placed_given ids own.start read events w.ledger text holding (subst (λ line. ArePlaced ids read events line w.ledger) held_is on.placed));
       start = on.start;
       kept = on.kept;
       set_fits = record { has_streams = on.set_fits.has_streams; of_streams = on.set_fits.of_streams; of_all = on.set_fits.of_all };
@@ -79,8 +82,8 @@ gives_on w streams read own text right held own_line opened on =
       got_lines = on.got_lines ∙ ap length (sym (same_gots events (Given text) refl));
       gives_next = give_next ids read w own text held on.gives_next;
       reads_first = on.reads_first;
-      own_lines = λ none zero. ap (λ list. texts (filter (λ line. passes ids line.found) (lines_read read list))) (same_reads events (Given text) refl)
-          ∙ (on.own_lines none zero ∙ (ap (λ it. gives events ++ option_to_list it) held ∙ (sym (gives_one events (Given text)) ∙ sym (append-nil (gives (events ++ Given text ∷ []))))));
+      own_lines = λ none first. ap (λ list. texts (filter (λ line. passes ids line.found) (lines_read read list))) (same_reads events (Given text) refl)
+          ∙ (on.own_lines none first ∙ (ap (λ it. gives events ++ option_to_list it) held ∙ (sym (gives_one events (Given text)) ∙ sym (append-nil (gives (events ++ Given text ∷ []))))));
     }
 
 may_give : (w : Worker) (streams : List ConfStream) (read : Reading) (text : List ℕ) (own : Option Running) (attempt : Running) → own ≡ Some attempt → w.held ≡ Some text → w.closed ≡ false → IsOn w streams read attempt → InAttempt own (GivesNext (ids_of streams) read text)
@@ -93,33 +96,36 @@ may_give w streams read text own attempt runs held opened on = subst (λ it. InA
   },
 )
 
-pub gives_way : (w : Worker) (text : List ℕ) (old new : Seen) (desk : DeskSeen) → w.held ≡ Some text → w.is_completing ≡ false → w.closed ≡ false → own_events new ≡ told_more (Given text ∷ []) (own_events old) → Grew old new → Ran (Stands w) (Stands (given_worker w)) old new desk desk
-gives_way w text old new desk held own_line opened added grew = record {
-  acts = does (Given text) ∷ [];
-  lines = [];
-  added = added;
-  said = none_said desk;
-  grew = grew;
-  desk = desk_same desk;
-  leads = λ call streams read here said reading stands. (
-    place_after read here (Given text) (with_event (Given text) here.standing.sync),
-    (
-      with_event (Given text) here.standing.sync,
-      (may_give w streams read text here.standing.sync.attempt stands.attempt stands.runs held opened stands.on, refl),
-      subst (λ (n : ℕ). 0 < n) (sym stands.is_last.number) stands.is_last.positive,
-      record { works = stands.is_last.works; order = stands.is_last.number ∙ sym stands.is_last.ended },
-      refl,
-    ),
-    record {
-      is_last = record { begun = stands.is_last.begun; number = stands.is_last.number; positive = stands.is_last.positive; ended = stands.is_last.ended; works = stands.is_last.works };
-      attempt = and_event (Given text) stands.attempt;
-      runs = ap (option_map (and_event (Given text))) stands.runs;
-      on = gives_on w streams read stands.attempt text reading.0 held own_line opened stands.on;
-      set = stands.set;
-      none_owed = stands.none_owed;
-      said_all = ap (λ list. list ++ []) stands.said_all;
-    },
-  );
+pub gives_step : (w : Worker) (text : List ℕ) (old new : Seen) (desk : DeskSeen) → w.held ≡ Some text → w.is_completing ≡ false → w.closed ≡ false → own_events new ≡ told_more (Given text ∷ []) (own_events old) → Grew old new → Steps moved.Yes (Stands w) (Stands (given_worker w)) old new desk desk
+gives_step w text old new desk held own_line opened added grew = record {
+  ran = record {
+    acts = does (Given text) ∷ [];
+    lines = [];
+    added = added;
+    said = none_said desk;
+    grew = grew;
+    desk = desk_same desk;
+    leads = λ call streams read here said reading stands. (
+      place_after read here (Given text) (with_event (Given text) here.standing.sync),
+      (
+        with_event (Given text) here.standing.sync,
+        (may_give w streams read text here.standing.sync.attempt stands.attempt stands.runs held opened stands.on, refl),
+        subst (λ (n : ℕ). 0 < n) (sym stands.is_last.number) stands.is_last.positive,
+        record { works = stands.is_last.works; order = stands.is_last.number ∙ sym stands.is_last.ended },
+        refl,
+      ),
+      record {
+        is_last = record { begun = stands.is_last.begun; number = stands.is_last.number; positive = stands.is_last.positive; ended = stands.is_last.ended; works = stands.is_last.works };
+        attempt = and_event (Given text) stands.attempt;
+        runs = ap (option_map (and_event (Given text))) stands.runs;
+        on = gives_on w streams read stands.attempt text reading.0 held own_line opened stands.on;
+        set = stands.set;
+        none_owed = stands.none_owed;
+        said_all = ap (λ list. list ++ []) stands.said_all;
+      },
+    );
+  };
+  are = inl refl;
 }
 
 -- ---- an offer that fails
@@ -129,14 +135,3 @@ offer_failed w old new desk opened live face same grew = failed_way w old new de
 
 pub offer_lacked : (w : Worker) (old new : Seen) (desk : DeskSeen) → Live w old → new.face ≡ old.face → own_events new ≡ own_events old → Grew old new → Ran (Stands w) (Ends status.NoMemory new.face w) old new desk desk
 offer_lacked w old new desk live face same grew = lacked_way w old new desk (coded w old new live (ap (λ (it : LinkFace). it.codes.source) face)) same grew
-
--- ---- for the function
-
-pub gives_taken : (w : Worker) (ledger : Noted) (text line : List ℕ) (old new : Seen) (desk : DeskSeen) → ledger ≡ gave w.ledger → line ≡ text → w.held ≡ Some text → w.is_completing ≡ false → w.closed ≡ false → own_events new ≡ told_more (Given line ∷ []) (own_events old) → Grew old new
-    → Ran (Stands w) (Stands (record w { ledger = ledger; held = None })) old new desk desk
-gives_taken w ledger text line old new desk gave_is same held own_line opened added grew =
-    subst (λ it. Ran (Stands w) (Stands (record w { ledger = it; held = None })) old new desk desk) (sym gave_is)
-    (gives_way w text old new desk held own_line opened (added ∙ ap (λ it. told_more (Given it ∷ []) (own_events old)) same) grew)
-
-pub rests_way : (w : Worker) (seen : Seen) (desk : DeskSeen) → Ran (Stands w) (Stands w) seen seen desk desk
-rests_way w seen desk = stays_way w seen seen desk refl (grew_none seen)

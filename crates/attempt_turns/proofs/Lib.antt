@@ -1,13 +1,15 @@
 pub mod Ways
 pub mod Lists
+pub mod TakenLemmas
+pub mod Placed
 pub mod ReadLemmas
 pub mod EndLemmas
 pub mod EndOfOutput
 pub mod LiveLemmas
 pub mod GiveLemmas
-pub mod TakenLemmas
 pub mod PutLemmas
 pub mod BackLemmas
 pub mod BackEnds
 pub mod SaveLemmas
+pub mod StepLemmas
 pub mod Worked

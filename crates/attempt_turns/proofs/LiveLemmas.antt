@@ -1,6 +1,5 @@
 -- The link behind a step.
 use Rattle.std.proofs.Common.{arith, ◌≡◌, ◌⊎◌, inl, inr, ℕ, ◌+◌, ◌<◌, ◌≤◌, List, [], ◌∷◌, Bool, true, false, cond, Option, None, Some, IfSome, IsTrue, refl, sym, ◌∙◌, ap, subst, length}
-use Rattle.std.specs.Prelude.{option_to_list}
 use Rattle.std.proofs.lemmas.Bool.{false≢true}
 use Rattle.basics.specs.Told.{told_by, told_more}
 use Rattle.outside.specs.Desk.{DeskSeen}
@@ -8,7 +7,6 @@ use Rattle.outside.specs.Event.{got_over, got_over_after, read_over, read_over_a
 use Rattle.outside.specs.Link.{Seen, own_events}
 use Rattle.outside.specs.declared.event.Event.{Event}
 use Rattle.outside.specs.declared.event.Event.TheVariants.{Given, Got, GotEnd, ReadEnd, ReadLine, Saved}
-use Rattle.outside.specs.declared.event.Exit.TheVariants.{Code}
 use Rattle.outside.specs.declared.link.LinkFace.{LinkFace}
 use Rattle.outside.specs.declared.link.PollKind.{PollKind}
 use Rattle.outside.specs.declared.link.PollKind.TheVariants as kind

@@ -1,6 +1,6 @@
 -- The saved set takes a state that was passed on.
 use Rattle.std.proofs.Common.{◌≡◌, ◌⊎◌, inl, inr, ℕ, List, [], ◌∷◌, ◌++◌, Bool, true, false, cond, Option, None, Some, Result, Ok, Err, refl, sym, ◌∙◌, ap, subst, is_some}
-use Rattle.std.specs.Prelude.{map, filter}
+use Rattle.std.specs.Prelude.{map}
 use Rattle.std.specs.List.{AllByRecursion, list_any}
 use Rattle.std.proofs.lemmas.Bool.{false≢true}
 use Rattle.basics.specs.declared.stream.StreamId.{StreamId}
@@ -57,13 +57,14 @@ line_state before lines line (Some own) state at has =
     let is = of_lane_state before own (lane_of own.kind) state refl has in
     record { line = line; among = inl refl; is = at ∙ ap (λ it. Some it) is.0; of = ap (λ (it : State). lane_of it.kind) (sym is.0) ∙ is.1 }
 
+stands_one : (before lines : List Line) (line : Line) (state : LaneState) → (Has state (states_behind (before ++ line ∷ []) lines) → StandsAmong lines state) → Has state (state_of before (state_in line.found)) ⊎ Has state (states_behind (before ++ line ∷ []) lines)
+    → StandsAmong (line ∷ lines) state
+stands_one before lines line state behind (inl own) = line_state before lines line (state_in line.found) state refl own
+stands_one before lines line state behind (inr more) = (let deeper = behind more in record { line = deeper.line; among = inr deeper.among; is = deeper.is; of = deeper.of })
+
 stands_among : (before lines : List Line) (state : LaneState) → Has state (states_behind before lines) → StandsAmong lines state
 stands_among before [] state has = absurd has
-stands_among before (line ∷ lines) state has = at (has_parts state (state_of before (state_in line.found)) (states_behind (before ++ line ∷ []) lines) has)
-  where
-    at : Has state (state_of before (state_in line.found)) ⊎ Has state (states_behind (before ++ line ∷ []) lines) → StandsAmong (line ∷ lines) state
-    at (inl own) = line_state before lines line (state_in line.found) state refl own
-    at (inr more) = (let deeper = stands_among (before ++ line ∷ []) lines state more in record { line = deeper.line; among = inr deeper.among; is = deeper.is; of = deeper.of })
+stands_among before (line ∷ lines) state has = stands_one before lines line state (λ more. stands_among (before ++ line ∷ []) lines state more) (has_parts state (state_of before (state_in line.found)) (states_behind (before ++ line ∷ []) lines) has)
 
 passed_kind : (ids : List StreamId) (found : Option Message) (state : State) → state_in found ≡ Some state → passes ids found ≡ true → is_known_kind ids state.kind ≡ true
 passed_kind ids None state is known = absurd (some_none (sym is))
@@ -132,13 +133,13 @@ put_set (kind.Stream id blob) object set = record set { entries = map (with_stat
 put_set (kind.Global shared streams) object set = record set { global = Some object }
 put_set kind.Legacy object set = set
 
+known_one : (P : StreamId → Type 0) (own : StreamId) (ids : List StreamId) (id : StreamId) → P own → (is_known ids id ≡ true → P id) → (same_id own id ≡ true) ⊎ (is_known ids id ≡ true) → P id
+known_one P own ids id here behind (inl same) = subst P (id_is own id same) here
+known_one P own ids id here behind (inr more) = behind more
+
 known_has : (P : StreamId → Type 0) (ids : List StreamId) (id : StreamId) → AllByRecursion P ids → is_known ids id ≡ true → P id
 known_has P [] id each known = absurd (false≢true known)
-known_has P (own ∷ ids) id each known = at (or_cases (same_id own id) (is_known ids id) known)
-  where
-    at : (same_id own id ≡ true) ⊎ (is_known ids id ≡ true) → P id
-    at (inl same) = subst P (id_is own id same) each.0
-    at (inr more) = known_has P ids id each.1 more
+known_has P (own ∷ ids) id each known = known_one P own ids id each.0 (λ more. known_has P ids id each.1 more) (or_cases (same_id own id) (is_known ids id) known)
 
 two_forms : Some form.Stream ≡ Some form.Global → ⊥
 two_forms e = cc
@@ -184,22 +185,16 @@ put_fits w streams (kind.Global shared parts) object fits takes = record {
 }
 put_fits w streams kind.Legacy object fits takes = absurd takes.of_form
 
-stated_held : (id : StreamId) (object : List ℕ) (entries : List SavedEntry) → map (λ (entry : SavedEntry). record { id = entry.id; generation = entry.generation }) (map (with_state id object) entries) ≡ map (λ (entry : SavedEntry). record { id = entry.id; generation = entry.generation }) entries
+abbrev held_of : SavedEntry → Held
+held_of entry = record { id = entry.id; generation = entry.generation }
+
+stated_one : (object : List ℕ) (entry : SavedEntry) (b : Bool) (next rest : List Held) → next ≡ rest → held_of (cond b (record entry { state = Some object }) entry) ∷ next ≡ held_of entry ∷ rest
+stated_one object entry true next rest same = ap (λ list. held_of entry ∷ list) same
+stated_one object entry false next rest same = ap (λ list. held_of entry ∷ list) same
+
+stated_held : (id : StreamId) (object : List ℕ) (entries : List SavedEntry) → map {B = Held} held_of (map (with_state id object) entries) ≡ map {B = Held} held_of entries
 stated_held id object [] = refl
-stated_held id object (entry ∷ entries) = at (is_same_stream id entry.id) (stated_held id object entries)
-  where
-    rest : List Held
-    rest = map (λ (it : SavedEntry). record { id = it.id; generation = it.generation }) entries
-
-    next : List Held
-    next = map (λ (it : SavedEntry). record { id = it.id; generation = it.generation }) (map (with_state id object) entries)
-
-    own : SavedEntry → Held
-    own it = record { id = it.id; generation = it.generation }
-
-    at : (b : Bool) → next ≡ rest → own (cond b (record entry { state = Some object }) entry) ∷ next ≡ own entry ∷ rest
-    at true same = ap (λ list. own entry ∷ list) same
-    at false same = ap (λ list. own entry ∷ list) same
+stated_held id object (entry ∷ entries) = stated_one object entry (is_same_stream id entry.id) (map {B = Held} held_of (map (with_state id object) entries)) (map {B = Held} held_of entries) (stated_held id object entries)
 
 put_held : (own : StateKind) (object : List ℕ) (set : Saved) → generations_in (put_set own object set) ≡ generations_in set
 put_held (kind.Stream id blob) object set = stated_held id object set.entries

@@ -1,5 +1,5 @@
 -- A line of the source is read and heard.
-use Rattle.std.proofs.Common.{arith, ◌≡◌, ℕ, ◌+◌, ◌<◌, ◌≤◌, List, [], ◌∷◌, ◌++◌, Bool, true, false, cond, ◌||◌, Option, None, Some, Result, Ok, Err, refl, sym, ◌∙◌, ap, subst, append_assoc, append-nil, length, length-append, nat_lt, le-ltb}
+use Rattle.std.proofs.Common.{arith, ◌≡◌, inl, ℕ, ◌+◌, ◌<◌, ◌≤◌, List, [], ◌∷◌, ◌++◌, Bool, true, false, cond, ◌||◌, Option, None, Some, Result, Ok, Err, refl, sym, ◌∙◌, ap, subst, append_assoc, append-nil, length, length-append, nat_lt, le-ltb}
 use Rattle.std.specs.Prelude.{filter, map, option_map, option_to_list, nat_eq}
 use Rattle.std.specs.List.{list_any}
 use Rattle.std.proofs.lemmas.List.{length-map}
@@ -48,10 +48,14 @@ use Rattle.ledger_rules.specs.Ledgers.{IsLedgerOf, held_by, is_give, told_read}
 use Rattle.ledger_rules.proofs.Judges.{err_ok, ok_is, passes_on, short_told}
 use Rattle.ledger_rules.proofs.Stands.{reads_on}
 use Rattle.attempt_turns.specs.Acts.{Going, does, Place, is_refused, lines_of, lines_told, lines_saying, place_after, reads_in}
-use Rattle.attempt_turns.specs.History.{Leads, Ran}
+use Rattle.attempt_turns.specs.History.{Leads}
+use Rattle.attempt_turns.specs.Silence.{Steps}
+use Rattle.attempt_turns.specs.declared.worker.Moved.TheVariants as moved
 use Rattle.attempt_turns.specs.Heard.{GoesOn, HeardSource, lines_answered}
+use Rattle.attempt_turns.specs.Placed.{ArePlaced}
 use Rattle.attempt_turns.specs.Worker.{ComesBack, IsOn, IsReadable, Stands, is_error, is_error_told, is_error_saying, left_to_give, source_held, untold_from}
 use Rattle.attempt_turns.specs.declared.worker.Worker.{Worker}
+use Rattle.attempt_turns.proofs.Placed.{placed_read}
 use Rattle.attempt_turns.proofs.Lists.{any_one, each_one, got_over_one, passed_one, read_over_one, reading_one, reads_one, same_gives, same_gots}
 
 -- ---- one answer
@@ -243,13 +247,17 @@ on_read w streams read own text answer ledger right empty going opened few goes 
     let next = events ++ ReadLine text ∷ [] in
     let told = told_is w read text answer ledger by in
     let completing = (on.reads_first going).0 in
-    let heard_is = reads_on ids own.start read events w.ledger text answer on.orderly.distinct on.start
-    (subst (λ line. IsLedgerOf ids own.start read events line w.ledger) (not_completing w w.held completing ∙ empty) on.ledger) by.judged_is in
+    let none_held = not_completing w w.held completing ∙ empty in
+    let idle = subst (λ line. IsLedgerOf ids own.start read events line w.ledger) none_held on.ledger in
+    let heard_is = reads_on ids own.start read events w.ledger text answer on.orderly.distinct on.start idle by.judged_is in
+    let given = sym (on.own_lines completing (on.reads_first going).1 ∙ (ap (λ held. gives events ++ option_to_list held) empty ∙ append-nil (gives events))) in
+    let placed = placed_read ids own.start read events w.ledger text answer (sym (few_lines ids w streams read own on)) idle.holds given heard_is (subst (λ line. ArePlaced ids read events line w.ledger) none_held on.placed) in
     let gives_it = passes_on ids own.start read events (source_held w) w.ledger text answer on.ledger by.judged_is in
     record {
       orderly = on.orderly;
       reading = reading_one read events (ReadLine text) on.reading right;
       ledger = subst (λ line. IsLedgerOf ids own.start read next line ledger) (sym (not_completing w (held_by answer text) completing)) (subst (IsLedgerOf ids own.start read next (held_by answer text)) (sym by.ledger_is) heard_is);
+      placed = subst (λ line. ArePlaced ids read next line ledger) (sym (not_completing w (held_by answer text) completing)) (subst (ArePlaced ids read next (held_by answer text)) (sym by.ledger_is) placed);
       start = on.start;
       kept = on.kept;
       set_fits = record {
@@ -303,15 +311,18 @@ going_read w call streams read here said text going stands = (
   refl,
 )
 
-pub reads_way : (w now : Worker) (text : List ℕ) (old new : Seen) (desk_old desk_new : DeskSeen) → IsReadable w → own_events new ≡ told_more (ReadLine text ∷ []) (own_events old) → Grew old new → HeardSource w text now desk_old desk_new → Ran (Stands w) (Stands now) old new desk_old desk_new
-reads_way w now text old new desk_old desk_new readable added grew heard_is = record {
-  acts = does (ReadLine text) ∷ [];
-  lines = lines_answered heard_is.answer;
-  added = added;
-  said = heard_is.said.said;
-  grew = grew;
-  desk = heard_is.said.keeps;
-  leads = leads;
+pub reads_step : (w now : Worker) (text : List ℕ) (old new : Seen) (desk_old desk_new : DeskSeen) → IsReadable w → own_events new ≡ told_more (ReadLine text ∷ []) (own_events old) → Grew old new → HeardSource w text now desk_old desk_new → Steps moved.Yes (Stands w) (Stands now) old new desk_old desk_new
+reads_step w now text old new desk_old desk_new readable added grew heard_is = record {
+  ran = record {
+    acts = does (ReadLine text) ∷ [];
+    lines = lines_answered heard_is.answer;
+    added = added;
+    said = heard_is.said.said;
+    grew = grew;
+    desk = heard_is.said.keeps;
+    leads = leads;
+  };
+  are = inl refl;
 }
   where
     leads : Leads (Stands w) (Stands now) (does (ReadLine text) ∷ []) (lines_answered heard_is.answer)

@@ -1,8 +1,10 @@
 -- What a line took is saved.
-use Rattle.std.proofs.Common.{arith, ◌≡◌, ◌⊎◌, inl, inr, ℕ, zero, suc, ◌+◌, ◌<◌, List, [], ◌∷◌, ◌++◌, Bool, true, false, cond, Option, None, Some, Ok, refl, sym, ◌∙◌, ap, subst, append_assoc, append-nil, length, codes}
+use Rattle.std.proofs.Common.{arith, ◌≡◌, ◌⊎◌, inl, inr, ℕ, zero, suc, ◌+◌, ◌<◌, List, [], ◌∷◌, ◌++◌, true, false, cond, None, Some, Result, Ok, Err, refl, sym, ◌∙◌, ap, subst, append_assoc, append-nil, length, codes}
 use Rattle.std.specs.Prelude.{filter, is_none, option_map, ◌==◌, ◌||◌, MatchBool}
 use Rattle.std.specs.List.{list_any}
+use Rattle.std.specs.Result.{IfErr, OnOk}
 use Rattle.std.proofs.lemmas.Bool.{false≢true}
+use Rattle.std.proofs.Math.Dec.{eqb-suc-zero}
 use Rattle.basics.specs.declared.stream.StreamId.{StreamId}
 use Rattle.basics.specs.Told.{told_more}
 use Rattle.outside.specs.Desk.{DeskSeen}
@@ -16,30 +18,32 @@ use Rattle.outside.specs.declared.status.Status.TheVariants as status
 use Rattle.airbyte_message.specs.State.{State as StateMsg}
 use Rattle.catalog.specs.Reading.{ids_of}
 use Rattle.catalog.specs.declared.stream.ConfStream.{ConfStream}
-use Rattle.dedup_merge.proofs.SameRowLemmas.{Has, has_from}
+use Rattle.dedup_merge.proofs.SameRowLemmas.{has_from}
 use Rattle.load_rules.specs.Prefixes.{IsPrefix}
 use Rattle.load_rules.specs.Lines.{Reading, lines_read, passes}
 use Rattle.load_rules.specs.Taken.{LaneState, states}
-use Rattle.load_rules.specs.Attempts.{gives, gots, passed, reads}
+use Rattle.load_rules.specs.Attempts.{gives, passed}
 use Rattle.load_rules.specs.Engine.{is_ended}
 use Rattle.state_kinds.specs.Saved.{Saved as Set}
 use Rattle.state_kinds.specs.Changes.{put_into}
 use Rattle.state_kinds.specs.Texts.{store_text}
-use Rattle.sync_rules.specs.Calls.{Call, Called, CallStep, OwesNothing, SavesRightly, Standing, begins_next, called_after, standing_after}
+use Rattle.sync_rules.specs.Calls.{Call, Called, CallStep, OwesNothing, SavesRightly, begins_next, called_after}
 use Rattle.sync_rules.specs.Generations.{generations_in}
 use Rattle.sync_rules.specs.SafeSync.{nothing, IsAsked}
-use Rattle.sync_rules.specs.Steps.{Saves, Step}
+use Rattle.sync_rules.specs.Steps.{Step}
 use Rattle.sync_rules.specs.Sync.{Running, Sync, and_event, saved, texts}
 use Rattle.ledger_rules.proofs.Stands.{goes_on}
-use Rattle.attempt_turns.specs.Acts.{Act, Going, InOrder, IsInOrder, IsShut, Place, does, fails, lines_of, lines_saved, place_after, place_failed}
-use Rattle.attempt_turns.specs.Ends.{CanStop, Ends, EndsSo, SaidSo, TurnCause, is_again}
-use Rattle.attempt_turns.specs.Heard.{SaveEnds, SayEnds, SaysFront, SaysLines}
+use Rattle.attempt_turns.specs.Acts.{Going, InOrder, IsShut, Place, does, fails, lines_of, lines_saved, place_after, place_failed}
+use Rattle.attempt_turns.specs.Ends.{Ends, EndsSo, SaidSo, TurnCause, is_again}
+use Rattle.attempt_turns.specs.Heard.{SaveEnds, SayEnds, SaysLines}
 use Rattle.attempt_turns.specs.History.{KeepsDesk, Ran}
-use Rattle.attempt_turns.specs.Worker.{HasCode, IsOn, Owes, Stands, is_error, source_held}
+use Rattle.attempt_turns.specs.Worker.{HasCode, IsOn, Live, Owes, Stands, is_error, source_held}
 use Rattle.attempt_turns.specs.declared.worker.Worker.{Worker}
+use Rattle.attempt_turns.proofs.Placed.{placed_on}
 use Rattle.attempt_turns.proofs.Lists.{any_one, got_over_one, same_gives, same_gots, same_reads}
-use Rattle.attempt_turns.proofs.EndLemmas.{desk_same, less_same, no_events, none_said, rightly}
+use Rattle.attempt_turns.proofs.EndLemmas.{coded, desk_same, less_same, no_events, none_said, rightly}
 use Rattle.attempt_turns.proofs.BackLemmas.{IsBack, on_back}
+use Rattle.attempt_turns.proofs.LiveLemmas.{live_saved}
 use Rattle.attempt_turns.proofs.PutLemmas.{PutsSo, can_take, puts_then, set_worker}
 
 saved_back : (text : List ℕ) → IsBack (Saved text)
@@ -53,7 +57,7 @@ not_begins called sync state positive owed = ap (λ b. b || is_none sync.owed) (
   where
     above : (n : ℕ) → 0 < n → (n == 0) ≡ false
     above zero less = absurd (omega (arith, less))
-    above (suc n) less = refl
+    above (suc n) less = eqb-suc-zero n
 
 -- what is owed, and the set that takes it
 pub record Puts (taken : StateMsg) (now : Set) (w : Worker) (call : Call) (streams : List ConfStream) (read : Reading) (here : Place) (said : List (List ℕ)) : Type 0 where
@@ -114,10 +118,12 @@ on_saved taken now w call streams read here said puts =
     let own = puts.owes.attempt in
     let on = puts.owes.on in
     let event = Saved (store_text now) in
+    let ledger = goes_on (ids_of streams) own.start read own.events (source_held w) w.ledger event (record { none_read = refl; none_given = refl; none_got = refl }) on.ledger in
     on_back w w.ledger now w.got_lines w.got_over streams read own event (record {
       back = saved_back (store_text now);
       right = tt;
-      ledger_is = goes_on (ids_of streams) own.start read own.events (source_held w) w.ledger event (record { none_read = refl; none_given = refl; none_got = refl }) on.ledger;
+      ledger_is = ledger;
+      placed = placed_on (ids_of streams) read own.events (source_held w) w.ledger own.start event refl refl ledger on.placed;
       kept = puts.so.kept ∙ on.kept;
       fits = record { has_streams = puts.so.fits.has_streams; of_streams = puts.so.fits.of_streams; of_all = puts.so.fits.of_all };
       no_error = ap (list_any (is_error side.Dest read)) (same_gots own.events event refl) ∙ on.none_ends.no_error_back;
@@ -189,11 +195,11 @@ saved_way taken text line now w old new desk_old desk_new puts text_is line_is a
   grew = grew;
   desk = says.keeps;
   leads = λ call streams read here said reading owes.
-    let so = puts_owed taken now w call streams read here said puts owes in (
-      saved_place read here now,
-      going_saved taken now w call streams read here said so,
-      stands_saved taken now w call streams read here said so,
-    );
+      let so = puts_owed taken now w call streams read here said puts owes in (
+        saved_place read here now,
+        going_saved taken now w call streams read here said so,
+        stands_saved taken now w call streams read here said so,
+      );
 }
 
 -- ---- the attempt ends
@@ -285,33 +291,33 @@ fault_saved taken text now w old new desk puts text_is code added grew = record 
   grew = grew;
   desk = desk_same desk;
   leads = λ call streams read here said reading owes.
-    let so = puts_owed taken now w call streams read here said puts owes in
-    let same = same_called taken now w call streams read here said so in (
-      place_failed here (Saved (store_text now)) (saved_sync here.standing.sync now),
-      (
-        saved_sync here.standing.sync now,
-        step_saved taken now w call streams read here said so,
-        rightly_saved taken now w call streams read here said so,
-        order_saved taken now w call streams read here said so,
-        tt,
-        refl,
-      ),
-      ends_owed status.StateFault new.face w (set_worker w now) call streams read (place_failed here (Saved (store_text now)) (saved_sync here.standing.sync now)) (said ++ []) (record {
-        kept = refl;
-        so = λ own. tt;
-        begun = ap (λ (it : Called). it.begun) same ∙ owes.is_last.begun;
-        number = ap (λ (it : Called). it.number) same ∙ owes.is_last.number;
-        ended = owes.is_last.ended;
-        same = refl;
-        failed = λ failed. refl;
-        attempt = and_event (Saved (store_text now)) owes.attempt;
-        runs = ap (option_map (and_event (Saved (store_text now)))) owes.runs;
-        going = any_one is_ended owes.attempt.events (Saved (store_text now)) refl ∙ owes.on.going;
-        rightly_given = saved_rightly w streams read new.face owes.attempt (store_text now) code owes.on;
-        paid = tt;
-        said_so = owes.said_all ∙ sym (append-nil said);
-      }),
-    );
+      let so = puts_owed taken now w call streams read here said puts owes in
+      let same = same_called taken now w call streams read here said so in (
+        place_failed here (Saved (store_text now)) (saved_sync here.standing.sync now),
+        (
+          saved_sync here.standing.sync now,
+          step_saved taken now w call streams read here said so,
+          rightly_saved taken now w call streams read here said so,
+          order_saved taken now w call streams read here said so,
+          tt,
+          refl,
+        ),
+        ends_owed status.StateFault new.face w (set_worker w now) call streams read (place_failed here (Saved (store_text now)) (saved_sync here.standing.sync now)) (said ++ []) (record {
+          kept = refl;
+          so = λ own. tt;
+          begun = ap (λ (it : Called). it.begun) same ∙ owes.is_last.begun;
+          number = ap (λ (it : Called). it.number) same ∙ owes.is_last.number;
+          ended = owes.is_last.ended;
+          same = refl;
+          failed = λ failed. refl;
+          attempt = and_event (Saved (store_text now)) owes.attempt;
+          runs = ap (option_map (and_event (Saved (store_text now)))) owes.runs;
+          going = any_one is_ended owes.attempt.events (Saved (store_text now)) refl ∙ owes.on.going;
+          rightly_given = saved_rightly w streams read new.face owes.attempt (store_text now) code owes.on;
+          paid = tt;
+          said_so = owes.said_all ∙ sym (append-nil said);
+        }),
+      );
 }
 
 -- all ends of a save
@@ -341,27 +347,27 @@ unsaid_way end taken text front now w old new desk_old desk_new kept so paid sai
   grew = grew;
   desk = keeps;
   leads = λ call streams read here said reading owes.
-    let own = puts_owed taken now w call streams read here said puts owes in
-    let same = same_called taken now w call streams read here said own in (
-      saved_place read here now,
-      going_saved taken now w call streams read here said own,
-      ends_owed end new.face w (set_worker w now) call streams read (saved_place read here now) (said ++ front) (record {
-        kept = kept;
-        so = λ it. so (ids_of streams) read it;
-        begun = ap (λ (it : Called). it.begun) same ∙ owes.is_last.begun;
-        number = ap (λ (it : Called). it.number) same ∙ owes.is_last.number;
-        ended = owes.is_last.ended;
-        same = refl;
-        failed = λ failed. absurd (false≢true (sym owes.is_last.works ∙ failed));
-        attempt = and_event (Saved (store_text now)) owes.attempt;
-        runs = ap (option_map (and_event (Saved (store_text now)))) owes.runs;
-        going = any_one is_ended owes.attempt.events (Saved (store_text now)) refl ∙ owes.on.going;
-        rightly_given = saved_rightly w streams read new.face owes.attempt (store_text now) code owes.on;
-        paid = paid (saved_sync here.standing.sync now) refl;
-        said_so = said_so (saved_place read here now).asked (said ++ front)
-            (prefix.0, saved_asks taken now w call streams read here said own ∙ (ap (λ list. said ++ list) prefix.1 ∙ sym (append_assoc said front prefix.0)));
-      }),
-    );
+      let own = puts_owed taken now w call streams read here said puts owes in
+      let same = same_called taken now w call streams read here said own in (
+        saved_place read here now,
+        going_saved taken now w call streams read here said own,
+        ends_owed end new.face w (set_worker w now) call streams read (saved_place read here now) (said ++ front) (record {
+          kept = kept;
+          so = λ it. so (ids_of streams) read it;
+          begun = ap (λ (it : Called). it.begun) same ∙ owes.is_last.begun;
+          number = ap (λ (it : Called). it.number) same ∙ owes.is_last.number;
+          ended = owes.is_last.ended;
+          same = refl;
+          failed = λ failed. absurd (false≢true (sym owes.is_last.works ∙ failed));
+          attempt = and_event (Saved (store_text now)) owes.attempt;
+          runs = ap (option_map (and_event (Saved (store_text now)))) owes.runs;
+          going = any_one is_ended owes.attempt.events (Saved (store_text now)) refl ∙ owes.on.going;
+          rightly_given = saved_rightly w streams read new.face owes.attempt (store_text now) code owes.on;
+          paid = paid (saved_sync here.standing.sync now) refl;
+          said_so = said_so (saved_place read here now).asked (said ++ front)
+              (prefix.0, saved_asks taken now w call streams read here said own ∙ (ap (λ list. said ++ list) prefix.1 ∙ sym (append_assoc said front prefix.0)));
+        }),
+      );
 }
 
 -- all ends of saying it
@@ -379,3 +385,19 @@ pub unsaid_cause : (end : Status) (line : List ℕ) (old new : Seen) (desk_old d
 unsaid_cause status.SayFault line old new desk_old desk_new is = is.rose
 unsaid_cause status.NoMemory line old new desk_old desk_new is = tt
 unsaid_cause end line old new desk_old desk_new is = absurd is
+
+-- ---- for the function
+
+pub said_saved : {T : Type 0} (result : Result T Status) (taken : StateMsg) (text line : List ℕ) (now : Set) (w : Worker) (old new : Seen) (desk_old desk_new : DeskSeen) → PutsInto taken w.set now → text ≡ store_text now → line ≡ saved_words taken → own_events new ≡ told_more (Saved text ∷ []) (own_events old) → Grew old new
+    → OnOk result (SaysLines (line ∷ []) desk_old desk_new) → OnOk result (Ran (Owes taken w) (Stands (set_worker w now)) old new desk_old desk_new)
+said_saved (Ok done) taken text line now w old new desk_old desk_new puts text_is line_is added grew says = saved_way taken text line now w old new desk_old desk_new puts text_is line_is added grew says
+said_saved (Err end) taken text line now w old new desk_old desk_new puts text_is line_is added grew says = tt
+
+pub unsaid_saved : {T : Type 0} (result : Result T Status) (taken : StateMsg) (text line : List ℕ) (now : Set) (w : Worker) (old new : Seen) (desk_old desk_new : DeskSeen) → PutsInto taken w.set now → text ≡ store_text now → line ≡ saved_words taken → Live w old → new.face ≡ old.face → own_events new ≡ told_more (Saved text ∷ []) (own_events old) → Grew old new
+    → IfErr result (λ end. SayEnds end line desk_old desk_new) → IfErr result (λ end. Ran (Owes taken w) (Ends end new.face (set_worker w now)) old new desk_old desk_new)
+unsaid_saved (Ok done) taken text line now w old new desk_old desk_new puts text_is line_is live face added grew says = tt
+unsaid_saved (Err end) taken text line now w old new desk_old desk_new puts text_is line_is live face added grew says = unsaid_ends end taken text line now w old new desk_old desk_new puts text_is line_is (coded w old new live (ap (λ (it : LinkFace). it.codes.source) face)) added grew says
+
+pub live_said : {T : Type 0} (result : Result T Status) (set : Set) (text : List ℕ) (w : Worker) (old new : Seen) → Live w old → new.face ≡ old.face → own_events new ≡ told_more (Saved text ∷ []) (own_events old) → OnOk result (Live (set_worker w set) new)
+live_said (Ok done) set text w old new live face added = live_saved w set text old new live face added
+live_said (Err end) set text w old new live face added = tt

@@ -1,5 +1,5 @@
 -- A state that a line takes was given, so it was passed on.
-use Rattle.std.proofs.Common.{◌≡◌, ◌⊎◌, inl, inr, ℕ, List, [], ◌∷◌, ◌++◌, Bool, true, false, cond, Option, None, Some, refl, sym, ◌∙◌, ap, subst, append_assoc, append-nil, filter_map}
+use Rattle.std.proofs.Common.{arith, ◌≡◌, ◌⊎◌, inl, inr, ℕ, List, [], ◌∷◌, ◌++◌, Bool, true, false, cond, Option, None, Some, refl, sym, ◌∙◌, ap, subst, append_assoc, append-nil, filter_map}
 use Rattle.std.specs.Prelude.{filter, is_none, map}
 use Rattle.std.specs.List.{AllByRecursion, cons_option}
 use Rattle.std.specs.Fmt.{decimal}
@@ -9,7 +9,7 @@ use Rattle.json_fields.specs.Answer.{IsAnswer}
 use Rattle.json_fields.specs.Parts.{IsNumber}
 use Rattle.json_write.proofs.Numerals.{decimal_literal}
 use Rattle.basics.specs.declared.stream.StreamId.{StreamId}
-use Rattle.outside.specs.Event.{given_in, got_in, read_over}
+use Rattle.outside.specs.Event.{given_in, read_over}
 use Rattle.outside.specs.declared.event.Event.{Event}
 use Rattle.outside.specs.declared.event.Event.TheVariants.{Opened, Took, TookEnd, Committed, Emitted, Merged, Shown, Started, ReadLine, ReadEnd, Given, Closed, Got, GotEnd, Saved, Ended}
 use Rattle.airbyte_message.specs.Lanes.{Lane, all}
@@ -29,7 +29,7 @@ use Rattle.load_rules.specs.Attempts.{reads, gives, passed, Waiting, none_given,
 use Rattle.load_rules.proofs.Machines.{states-one}
 use Rattle.load_rules.proofs.TakenLists.{states-append}
 use Rattle.sync_rules.specs.Sync.{completion, completions, texts, to_give, untold}
-use Rattle.sync_rules.proofs.KindLemmas.{all_has, has_back, has_front, has_map, has_parts, heads, some_none, tails}
+use Rattle.sync_rules.proofs.KindLemmas.{all_has, has_back, has_front, has_map, has_parts, heads, tails}
 
 -- ---- which events change what waits
 
@@ -128,21 +128,25 @@ taken_among read events back taken takes =
 
 -- ---- completions are no states
 
-pub reads_given : (read : Reading) (events : List Event) (text : List ℕ) → IsReading read events → Has text (gives events) → ReadsText read text
-reads_given read [] text right has = absurd has
-reads_given read (event ∷ events) text right has = at (one_of read all event)
+-- a text that was given in this event, or in those behind it
+given_in_one : (read : Reading) (event : Event) (events : List Event) (text : List ℕ) → ReadsEvent read event → (Has text (gives events) → ReadsText read text) → Has text (cons_option (given_in event) (gives events)) → ReadsText read text
+given_in_one read event events text right behind has = at (one_of read all event)
   where
-    onward : given_in event ≡ None → ReadsText read text
-    onward none = reads_given read events text right.1 (subst (λ found. Has text (cons_option found (gives events))) none has)
-
     here : (own : List ℕ) → event ≡ Given own → Has text (own ∷ gives events) → ReadsText read text
-    here own is (inl same) = subst (ReadsText read) same (subst (ReadsEvent read) is right.0)
-    here own is (inr more) = reads_given read events text right.1 more
+    here own is (inl same) = subst (ReadsText read) same (subst (ReadsEvent read) is right)
+    here own is (inr more) = behind more
+
+    onward : given_in event ≡ None → ReadsText read text
+    onward none = behind (subst (λ found. Has text (cons_option found (gives events))) none has)
 
     at : IsOneOf read all event → ReadsText read text
     at (inl (own, is)) = here own is (subst (λ it. Has text (cons_option (given_in it) (gives events))) is has)
     at (inr (inl (own, is))) = onward (ap given_in is)
     at (inr (inr leaving)) = onward leaving.1
+
+pub reads_given : (read : Reading) (events : List Event) (text : List ℕ) → IsReading read events → Has text (gives events) → ReadsText read text
+reads_given read [] text right has = absurd has
+reads_given read (event ∷ events) text right has = given_in_one read event events text right.0 (λ more. reads_given read events text right.1 more) has
 
 -- the number of a completion is 0
 zero_number : IsNumber (decimal 0)
@@ -151,15 +155,12 @@ zero_number = (let whole = decimal_literal 0 (omega arith) in record { literal =
 pub completion_none : (read : Reading) (id : StreamId) → HasNames id → ReadsText read (completion id) → state_in (read (completion id)) ≡ None
 completion_none read id names right = at (read (completion id)) right
   where
-    content : Message
-    content = message.Trace (trace.Status id Complete (Some (decimal 0)))
-
-    is : IsMessage (completion id) content
-    is = written_is content (record { names = names; number = zero_number })
+    is : IsMessage (completion id) (message.Trace (trace.Status id Complete (Some (decimal 0))))
+    is = written_is (message.Trace (trace.Status id Complete (Some (decimal 0)))) (record { names = names; number = zero_number })
 
     at : (found : Option Message) → IsAnswer (IsMessage (completion id)) found → state_in found ≡ None
     at None answer = refl
-    at (Some other) answer = ap (λ it. state_in (Some it)) (sym (answer.only content is))
+    at (Some other) answer = ap (λ it. state_in (Some it)) (sym (answer.only (message.Trace (trace.Status id Complete (Some (decimal 0)))) is))
 
 completed_none : (ids : List StreamId) (read : Reading) (events : List Event) (text : List ℕ) → AllByRecursion HasNames ids → ReadsText read text → Has text (completions ids read events) → state_in (read text) ≡ None
 completed_none ids read events text names right has = at (read_over events) has
@@ -182,9 +183,9 @@ no_states read before (text ∷ list) none =
 
 -- one of two parts goes on behind a front
 front_or_behind : {A : Type 0} (a b g r : List A) → a ++ b ≡ g ++ r → ((more : List A) × (a ≡ g ++ more)) ⊎ ((more : List A) × (g ≡ a ++ more) × (b ≡ more ++ r))
-front_or_behind [] b g r is = inr (g, refl, is)
-front_or_behind (x ∷ a) b [] r is = inl (x ∷ a, refl)
-front_or_behind (x ∷ a) b (y ∷ g) r is = at (front_or_behind a b g r (tails is))
+front_or_behind {A = A} [] b g r is = inr (g, refl, is)
+front_or_behind {A = A} (x ∷ a) b [] r is = inl (x ∷ a, refl)
+front_or_behind {A = A} (x ∷ a) b (y ∷ g) r is = at (front_or_behind a b g r (tails is))
   where
     at : ((more : List A) × (a ≡ g ++ more)) ⊎ ((more : List A) × (g ≡ a ++ more) × (b ≡ more ++ r)) → ((more : List A) × (x ∷ a ≡ y ∷ (g ++ more))) ⊎ ((more : List A) × (y ∷ g ≡ x ∷ (a ++ more)) × (b ≡ more ++ r))
     at (inl (more, same)) = inl (more, ap (λ it. it ∷ a) (heads is) ∙ ap (λ it. y ∷ it) same)

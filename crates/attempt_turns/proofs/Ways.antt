@@ -111,6 +111,11 @@ ran_then A B C x y z d e f first second = record {
   leads = leads_then A B C first.acts second.acts first.lines second.lines first.leads second.leads;
 }
 
+-- its acts are those of both
+pub acts_then : (A B C : State) (x y z : Seen) (d e f : DeskSeen) (first : Ran A B x y d e) (second : Ran B C y z e f) → (ran_then A B C x y z d e f first second).acts ≡ first.acts ++ second.acts
+unfolding ran_then
+acts_then A B C x y z d e f first second = refl
+
 pub ways_go_on : WaysGoOn
 ways_go_on = record {
   calls = λ call streams read before here there acts goes. going_calls call streams read before here there acts goes;

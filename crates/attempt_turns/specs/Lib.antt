@@ -3,6 +3,7 @@ pub mod History
 pub mod Worker
 pub mod Silence
 pub mod Waits
+pub mod Placed
 pub mod Ends
 pub mod Heard
 pub mod Laws

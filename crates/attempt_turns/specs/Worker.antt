@@ -40,6 +40,7 @@ use Rattle.sync_ledger.specs.declared.told.Told.TheVariants as told
 use Rattle.ledger_rules.specs.Ledgers.{IsLedgerOf}
 use Rattle.attempt_turns.specs.Acts.{Place, place_after}
 use Rattle.attempt_turns.specs.History.{State}
+use Rattle.attempt_turns.specs.Placed.{ArePlaced}
 use Rattle.attempt_turns.specs.declared.worker.Worker.{Worker}
 
 -- ---- what ends an attempt and has not come
@@ -106,6 +107,7 @@ pub record IsOn (w : Worker) (streams : List ConfStream) (read : Reading) (own :
   pub orderly : AreOrderly streams
   pub reading : IsReading read own.events
   pub ledger : IsLedgerOf (ids_of streams) own.start read own.events (source_held w) w.ledger
+  pub placed : ArePlaced (ids_of streams) read own.events (source_held w) w.ledger
   pub start : IsSaved own.start
   pub kept : generations_in w.set ≡ generations_in own.start
   pub set_fits : SetFits w streams

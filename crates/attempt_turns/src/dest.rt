@@ -1,5 +1,5 @@
 // The destination's side of a turn.
-ghost use Rattle.std.specs.Prelude.{◌≡◌, ◌+◌, ◌≤◌, ◌++◌, [], ◌∷◌, false, option_map, IfErr, IfOk, Ok, OnErr, OnOk, codes};
+ghost use Rattle.std.specs.Prelude.{◌≡◌, ◌+◌, ◌<◌, ◌≤◌, ◌++◌, [], ◌∷◌, false, option_map, IfErr, IfOk, Ok, OnErr, OnOk, codes};
 ghost use Rattle.basics.specs.Told.{told_more};
 ghost use Rattle.outside.specs.Link.{Grew, own_events};
 ghost use Rattle.outside.specs.declared.event.Event.TheVariants as event;
@@ -9,7 +9,7 @@ ghost use Rattle.sync_ledger.specs.declared.notes.TheConstants.{MOST_LINES as mo
 ghost use Rattle.attempt_turns.specs.Ends.{Ends, TurnCause, WasQuietBack};
 ghost use Rattle.attempt_turns.specs.Heard.{BackEnds, HeardBack, HearsBack, RefusedBack, SaveEnds};
 ghost use Rattle.attempt_turns.specs.History.{Ran};
-ghost use Rattle.attempt_turns.specs.Silence.{Fewer, Rested, Steps};
+ghost use Rattle.attempt_turns.specs.Silence.{Fewer, Rested, Steps, left};
 ghost use Rattle.attempt_turns.specs.Worker.{HasGot, Live, Owes, Stands};
 
 use crate::{Moved, Worker, say_line};
@@ -26,6 +26,9 @@ fn hear_back(w: &mut Worker, line: &Bytes) -> Result<Echoed, Status>
     ensures ok { IfOk result (λ answer. HearsBack w.old line.now answer w.new) }
     ensures err { OnErr result (w.new ≡ w.old) }
     ensures end { IfErr result (λ end. RefusedBack end w.old line.now) }
+    ensures kept { w.new ≡ record (w.old) { ledger = w.new.ledger; got_lines = w.new.got_lines } }
+    ensures ids { w.new.ledger.ids ≡ w.old.ledger.ids }
+    ensures lines { w.new.ledger.lines ≡ w.old.ledger.lines }
 {
     match w.ledger.dest_line(line.as_slice()) {
         Ok(answer) => {
@@ -41,16 +44,13 @@ fn hear_back(w: &mut Worker, line: &Bytes) -> Result<Echoed, Status>
 }
 
 // A line that came back is heard, and what is to be said of it is said. It gives the state that it takes.
-fn take_got<K: Desk>(
-    desk: &mut K,
-    w: &mut Worker,
-    line: &Bytes,
-) -> Result<Option<StateMsg>, Status>
+fn take_got<K: Desk>(desk: &mut K, w: &mut Worker, line: &Bytes) -> Result<Option<StateMsg>, Status>
     requires { w.old.got_lines ≤ most_lines }
     ensures ok { IfOk result (λ taken. HeardBack w.old line.now taken w.new (K.seen desk.old) (K.seen desk.new)) }
     ensures err { IfErr result (λ end. BackEnds end w.old line.now w.new (K.seen desk.old) (K.seen desk.new)) }
     ensures kept { w.new ≡ record (w.old) { ledger = w.new.ledger; got_lines = w.new.got_lines } }
     ensures ids { w.new.ledger.ids ≡ w.old.ledger.ids }
+    ensures lines { w.new.ledger.lines ≡ w.old.ledger.lines }
 {
     match hear_back(w, line) {
         Ok(Echoed::State(taken)) => Ok(Some(taken)),
@@ -126,8 +126,10 @@ fn save_taken<K: Desk, L: Link>(
     let Ok(text) = write_store(alloc, &w.set) else {
         return Err(Status::NoMemory);
     };
-    save_text(link, store, &text)?;
-    say_line(desk, &line)
+    match save_text(link, store, &text) {
+        Ok(()) => say_line(desk, &line),
+        Err(end) => Err(end),
+    }
 }
 
 // A line that came back is heard; what it takes is saved, and what is to be said of it is said.
@@ -148,7 +150,7 @@ fn take_back<K: Desk, L: Link>(
     ensures cause { IfErr result (λ end. TurnCause end (L.seen link.old) (L.seen link.new) (K.seen desk.old) (K.seen desk.new)) }
     ensures kept { w.new ≡ record (w.old) { ledger = w.new.ledger; set = w.new.set; got_lines = w.new.got_lines } }
     ensures ids { w.new.ledger.ids ≡ w.old.ledger.ids }
-    ensures counted { OnOk result (w.new.got_lines ≡ w.old.got_lines + 1) }
+    ensures fewer { OnOk result (left w.new < left w.old) }
     ensures face { (L.seen link.new).face ≡ (L.seen link.old).face }
 {
     match take_got(desk, w, line) {

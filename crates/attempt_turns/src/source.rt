@@ -17,6 +17,8 @@ fn hear_source(w: &mut Worker, line: Bytes) -> Result<Verdict, Status>
     ensures ok { IfOk result (λ answer. HearsSource w.old line answer w.new) }
     ensures err { OnErr result (w.new ≡ w.old) }
     ensures end { IfErr result (λ end. RefusedSource end w.old line) }
+    ensures kept { w.new ≡ record (w.old) { ledger = w.new.ledger; held = w.new.held } }
+    ensures ids { w.new.ledger.ids ≡ w.old.ledger.ids }
 {
     if w.ledger.lines() >= MOST_LINES {
         return Err(Status::TooManyLines);
