@@ -21,6 +21,7 @@ use Rattle.attempt_turns.specs.Silence.{Steps}
 use Rattle.attempt_turns.specs.Worker.{HasCode, IsOn, Stands}
 use Rattle.attempt_turns.specs.declared.worker.Moved.TheVariants as moved
 use Rattle.attempt_turns.specs.declared.worker.Worker.{Worker}
+use Rattle.attempt_turns.proofs.Ways.{grew_none}
 use Rattle.attempt_turns.proofs.EndLemmas.{desk_same, ends_here, may_stop, no_events, none_said}
 
 -- ---- the worker changes, and nothing is told
@@ -74,6 +75,9 @@ still_step w old new desk_old desk_new events grew said_same keeps = record {
   };
   are = refl;
 }
+
+pub still_way : (w : Worker) (seen : Seen) (desk : DeskSeen) → Ran (Stands w) (Stands w) seen seen desk desk
+still_way w seen desk = (still_step w seen seen desk desk refl (grew_none seen) refl (desk_same desk)).ran
 
 -- a desk of which what was said is written out
 pub flushed : (old new : DeskSeen) → new ≡ record old { say_faults = new.say_faults } → old.say_faults ≤ new.say_faults → KeepsDesk old new

@@ -1,6 +1,6 @@
 use Rattle.std.proofs.Common.{arith, ◌∙◌, refl, sym, subst}
 use Rattle.outside.specs.declared.status.Status.TheVariants as status
-use Rattle.attempt_turns.proofs.EndLemmas.{stays_way}
+use Rattle.attempt_close.proofs.Ways.{still_way}
 use Rattle.attempt_turns.proofs.Ways.{grew_none, ran_then}
 use Rattle.attempt_close.proofs.Counting.{Quiet, row_begins}
 use Rattle.attempt_close.proofs.Running.{awaits_by, behind_way, ended_way, few_turns, fits_first, row_turn, settled_first, silent_so, silent_way}
@@ -8,7 +8,7 @@ use Rattle.attempt_close.proofs.run.run_turns.Goals as goal
 
 pub turns-init : goal.turns-init
 turns-init g c = record {
-  ran = stays_way _ _ _ _ refl (grew_none _);
+  ran = still_way _ _ _;
   live = c.requires.live;
   fits = fits_first _ _ _ c.requires.begins;
   settled = settled_first _ _ _ c.requires.begins;
