@@ -1,0 +1,10 @@
+pub mod Places
+pub mod Statuses
+pub mod Ways
+pub mod Completing
+pub mod Closing
+pub mod Waiting
+pub mod Ending
+pub mod Counting
+pub mod Turning
+pub mod Running

@@ -1,0 +1,4 @@
+pub mod Ended
+pub mod Codes
+pub mod Completions
+pub mod Turns
