@@ -1,0 +1,11 @@
+pub mod StepKinds
+pub mod Attempts
+pub mod Lines
+pub mod Committed
+pub mod Sets
+pub mod Chain
+pub mod Keeps
+pub mod Opens
+pub mod Rises
+pub mod SavedBack
+pub mod Sounds

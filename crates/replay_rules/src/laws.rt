@@ -1,0 +1,22 @@
+// The laws of retries, each as the contract of a function that does nothing.
+ghost use Rattle.replay_rules.specs.Laws.{CallsStaySound, FrontsAreSound, SavedAreCommitted, SavedRise};
+
+/// A sound trace stays sound by a call of honest attempts of the same source.
+pub fn calls_stay_sound()
+    ensures { CallsStaySound }
+{}
+
+/// Each prefix of a sound trace is sound.
+pub fn fronts_are_sound()
+    ensures { FrontsAreSound }
+{}
+
+/// The states that an attempt's sets take rise within each lane.
+pub fn saved_rise()
+    ensures { SavedRise }
+{}
+
+/// Each body before the place of a saved state is committed.
+pub fn saved_are_committed()
+    ensures { SavedAreCommitted }
+{}

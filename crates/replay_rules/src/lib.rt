@@ -1,0 +1,6 @@
+//! What retries of a source that can be replayed leave.
+#![tactic(auto)]
+
+mod laws;
+
+pub use laws::{calls_stay_sound, fronts_are_sound, saved_are_committed, saved_rise};
