@@ -172,7 +172,7 @@ keeps_step id row events (Saved x) fits none keeps = keeps
 keeps_step id row events (Ended x) fits none keeps = keeps
 
 -- behind a commit of the row
-keeps_first : (id : StreamId) (row : RawRow) (events : List Event) (n : ℕ) (rows : List RawRow) (plan : StreamPlan) → IsStoreRun events → plan_at (tables_of events) n ≡ Some plan → plan.id ≡ id → plan.minimum ≤ row.generation → Has row rows → Keeps (tables_after (tables_of events) (Committed n rows)) id row
+pub keeps_first : (id : StreamId) (row : RawRow) (events : List Event) (n : ℕ) (rows : List RawRow) (plan : StreamPlan) → IsStoreRun events → plan_at (tables_of events) n ≡ Some plan → plan.id ≡ id → plan.minimum ≤ row.generation → Has row rows → Keeps (tables_after (tables_of events) (Committed n rows)) id row
 keeps_first id row events n rows plan run named same low has = subst (λ found. Keeps (tables_committed found rows (tables_of events)) id row) (sym named) (record {
   stands = subst (λ (t : StreamTable). Has row (map row_of t.rows)) (sym table) (subst (λ list. Has row list) (sym (map-append row_of (table_in store.streams id).rows (placed_after store.places rows))) (has_right row (map row_of (table_in store.streams id).rows) (map row_of (placed_after store.places rows)) (subst (λ list. Has row list) (sym (rows_placed store.places rows)) has)));
   plans = λ j q at own. (
@@ -199,7 +199,7 @@ none_rest : (a b : Bool) → (a || b) ≡ false → b ≡ false
 none_rest true b is = absurd (false≢true (sym is))
 none_rest false b is = is
 
-keeps_along : (id : StreamId) (row : RawRow) (before events : List Event) → EachFits StoreFits before events → list_any is_opening events ≡ false → Keeps (tables_of before) id row → Keeps (tables_of (before ++ events)) id row
+pub keeps_along : (id : StreamId) (row : RawRow) (before events : List Event) → EachFits StoreFits before events → list_any is_opening events ≡ false → Keeps (tables_of before) id row → Keeps (tables_of (before ++ events)) id row
 keeps_along id row before [] fits none keeps = subst (λ trace. Keeps (tables_of trace) id row) (sym (append-nil before)) keeps
 keeps_along id row before (event ∷ events) fits none keeps =
     subst (λ trace. Keeps (tables_of trace) id row) (append_assoc before (event ∷ []) events)

@@ -9,3 +9,5 @@ pub mod Opens
 pub mod Rises
 pub mod SavedBack
 pub mod Sounds
+pub mod Gens
+pub mod Standing

@@ -193,11 +193,24 @@ none_rest : (a b : Bool) → (a || b) ≡ false → b ≡ false
 none_rest true b is = absurd (false≢true (sym is))
 none_rest false b is = is
 
-module _ (streams : List ConfStream) (read : Reading) (asked : Asked) where
-  -- the attempt of the sync has done the link's events among these
-  abbrev pub IsRunning : Sync → List Event → Running → Type 0
-  IsRunning sync before own = (sync.attempt ≡ Some own) × (own.events ≡ filter is_links before)
+-- What is threaded along the attempt beside: the trace, the attempt's events, what is to come, and the attempt as the sync knows it.
+abbrev pub Threading : Type 1
+Threading = List Event → List Event → List Event → Running → Type 0
 
+-- it goes on by each event, and what is asked of a state that is put follows from it
+abbrev pub GoesWith : Threading → Type 0
+GoesWith Q = (whole before : List Event) (event : Event) (rest : List Event) (own next : Running) → next.start ≡ own.start → Q whole before (event ∷ rest) own → Q (whole ++ event ∷ []) (before ++ event ∷ []) rest next
+
+-- the attempt of the sync has done the link's events among these
+abbrev pub IsRunning : Sync → List Event → Running → Type 0
+IsRunning sync before own = (sync.attempt ≡ Some own) × (own.events ≡ filter is_links before)
+
+abbrev pub PutsAs : List ConfStream → Reading → Asked → Threading → Asking → Type 0
+PutsAs streams read asked Q asking =
+    (whole before rest : List Event) (sync : Sync) (own : Running) (taken : List LaneState) (set : Set) → Q whole before rest own → IsRunning sync before own → Rises read own.events sync.owed taken
+    → (put : Puts streams read (IsAsked streams asked whole) sync set) → asking taken set before put.state
+
+module _ (streams : List ConfStream) (read : Reading) (asked : Asked) (asking : Asking) (Q : Threading) (goes_with : GoesWith Q) (puts_as : PutsAs streams read asked Q asking) where
   in_attempt : (own : Option Running) (running : Running) (is : Running → Type 0) → own ≡ Some running → InAttempt own is → is running
   in_attempt None running is same fits = absurd (some_none (sym same))
   in_attempt (Some own) running is same fits = subst is (some_is same) fits.1
@@ -213,13 +226,13 @@ module _ (streams : List ConfStream) (read : Reading) (asked : Asked) where
 
   -- one event, where what comes behind it fits from wherever the attempt then stands
   module _ (whole before : List Event) (event : Event) (events : List Event) (sync middle : Sync) (own : Running) (taken : List LaneState)
-      (first : is_started event ≡ false) (runs : IsRunning sync before own) (rises : Rises read own.events sync.owed taken)
-      (onward : (own : Running) (taken : List LaneState) → IsRunning middle (before ++ event ∷ []) own → Rises read own.events middle.owed taken → SavesFit streams read rising taken middle.set (before ++ event ∷ []) events) where
-    skip : saved_in event ≡ None → middle.set ≡ sync.set → SavesFit streams read rising taken middle.set (before ++ event ∷ []) events → SavesFit streams read rising taken sync.set before (event ∷ events)
-    skip quiet same fits = skips streams read rising taken sync.set before event events quiet (subst (λ set. SavesFit streams read rising taken set (before ++ event ∷ []) events) same fits)
+      (first : is_started event ≡ false) (with : Q whole before (event ∷ events) own) (runs : IsRunning sync before own) (rises : Rises read own.events sync.owed taken)
+      (onward : (next : Running) (taken : List LaneState) → next.start ≡ own.start → IsRunning middle (before ++ event ∷ []) next → Rises read next.events middle.owed taken → SavesFit streams read asking taken middle.set (before ++ event ∷ []) events) where
+    skip : saved_in event ≡ None → middle.set ≡ sync.set → SavesFit streams read asking taken middle.set (before ++ event ∷ []) events → SavesFit streams read asking taken sync.set before (event ∷ events)
+    skip quiet same fits = skips streams read asking taken sync.set before event events quiet (subst (λ set. SavesFit streams read asking taken set (before ++ event ∷ []) events) same fits)
 
-    puts : (text : List ℕ) → event ≡ Saved text → (saves : Saves streams read (IsAsked streams asked whole) sync text middle) → SavesFit streams read rising taken sync.set before (event ∷ events)
-    puts text is saves = subst (λ it. SavesFit streams read rising taken sync.set before (it ∷ events)) (sym is) (saves.set, saves.text_is, by saves.by)
+    puts : (text : List ℕ) → event ≡ Saved text → (saves : Saves streams read (IsAsked streams asked whole) sync text middle) → SavesFit streams read asking taken sync.set before (event ∷ events)
+    puts text is saves = subst (λ it. SavesFit streams read asking taken sync.set before (it ∷ events)) (sym is) (saves.set, saves.text_is, by saves.by)
       where
         set_is : middle.set ≡ saves.set
         set_is = ap (λ (it : Sync). it.set) saves.is
@@ -230,15 +243,15 @@ module _ (streams : List ConfStream) (read : Reading) (asked : Asked) where
         owes_none : middle.owed ≡ None
         owes_none = ap (λ (it : Sync). it.owed) saves.is
 
-        behind : (taken : List LaneState) → AllByRecursion (WasTaken read own.events) taken → SavesFit streams read rising taken saves.set (before ++ Saved text ∷ []) events
-        behind taken all = subst (λ it. SavesFit streams read rising taken saves.set (before ++ it ∷ []) events) is (subst (λ set. SavesFit streams read rising taken set (before ++ event ∷ []) events) set_is (onward (and_event event own) taken runs_on (record {
+        behind : (taken : List LaneState) → AllByRecursion (WasTaken read own.events) taken → SavesFit streams read asking taken saves.set (before ++ Saved text ∷ []) events
+        behind taken all = subst (λ it. SavesFit streams read asking taken saves.set (before ++ it ∷ []) events) is (subst (λ set. SavesFit streams read asking taken set (before ++ event ∷ []) events) set_is (onward (and_event event own) taken refl runs_on (record {
           all = all_weaker (WasTaken read own.events) (WasTaken read (own.events ++ event ∷ [])) taken (λ state was. taken_more read own.events (event ∷ []) state was) all;
           last = λ state owed. absurd (some_none (sym owed ∙ owes_none));
         })))
 
         by : ((gens : List Gen) × Begins streams sync.set gens saves.set) ⊎ Puts streams read (IsAsked streams asked whole) sync saves.set
-            → ((gens : List Gen) × Begins streams sync.set gens saves.set × SavesFit streams read rising taken saves.set (before ++ Saved text ∷ []) events)
-            ⊎ ((state : LaneState) × Contains (states (passed (ids_of streams) read before)) state × (put_into state.state sync.set ≡ Ok saves.set) × rising taken saves.set before state × SavesFit streams read rising (taken ++ state ∷ []) saves.set (before ++ Saved text ∷ []) events)
+            → ((gens : List Gen) × Begins streams sync.set gens saves.set × SavesFit streams read asking taken saves.set (before ++ Saved text ∷ []) events)
+            ⊎ ((state : LaneState) × Contains (states (passed (ids_of streams) read before)) state × (put_into state.state sync.set ≡ Ok saves.set) × asking taken saves.set before state × SavesFit streams read asking (taken ++ state ∷ []) saves.set (before ++ Saved text ∷ []) events)
         by (inl begins) = inl (begins.0, begins.1, behind taken rises.all)
         by (inr put) =
             let last = rises.last put.state put.owed in
@@ -246,34 +259,37 @@ module _ (streams : List ConfStream) (read : Reading) (asked : Asked) where
               put.state,
               subst (λ lines. Contains (states lines) put.state) (ap (λ (it : Running). passed (ids_of streams) read it.events) (some_is (sym put.in_attempt ∙ runs.0)) ∙ (ap (passed (ids_of streams) read) runs.1 ∙ passed_links (ids_of streams) read before)) put.passed_on,
               put.put,
-              all_behind_it read own.events taken put.state last,
+              puts_as whole before (event ∷ events) sync own taken saves.set with runs rises put,
               behind (taken ++ put.state ∷ []) (all_append (WasTaken read own.events) taken (put.state ∷ []) rises.all (record { front = last.front; text = last.text; back = last.back; splits = last.splits; took = last.took }, tt)),
             )
 
-    gets : (text : List ℕ) → event ≡ Got text → Gets read sync text middle own → SavesFit streams read rising taken sync.set before (event ∷ events)
+    gets : (text : List ℕ) → event ≡ Got text → Gets read sync text middle own → SavesFit streams read asking taken sync.set before (event ∷ events)
     gets text is fits =
         let attempt_is : middle.attempt ≡ option_map (and_event event) sync.attempt = ap (λ (it : Sync). it.attempt) fits.is ∙ ap (λ it. option_map (and_event it) sync.attempt) (sym is) in
         skip (ap saved_in is) (ap (λ (it : Sync). it.set) fits.is)
-        (onward (and_event event own) taken (running_on sync before own event middle (ap is_links is) attempt_is runs)
+        (onward (and_event event own) taken refl (running_on sync before own event middle (ap is_links is) attempt_is runs)
         (subst (λ owed. Rises read (own.events ++ event ∷ []) owed taken) (sym (ap (λ (it : Sync). it.owed) fits.is)) (subst (λ it. Rises read (own.events ++ it ∷ []) fits.owed taken) (sym is) (rises_got read own.events text fits.owed taken fits.takes rises.all))))
 
-    fits_step : StepKind streams read (IsAsked streams asked whole) sync event middle → SavesFit streams read rising taken sync.set before (event ∷ events)
+    fits_step : StepKind streams read (IsAsked streams asked whole) sync event middle → SavesFit streams read asking taken sync.set before (event ∷ events)
     fits_step (Stores store started_not same) =
         skip (saved_not event store) (ap (λ (it : Sync). it.set) same)
-        (onward own taken (ap (λ (it : Sync). it.attempt) same ∙ runs.0, runs.1 ∙ store_more before event store) (subst (λ (it : Sync). Rises read own.events it.owed taken) (sym same) rises))
+        (onward own taken refl (ap (λ (it : Sync). it.attempt) same ∙ runs.0, runs.1 ∙ store_more before event store) (subst (λ (it : Sync). Rises read own.events it.owed taken) (sym same) rises))
     fits_step (Starting plan is starts same) = absurd (false≢true (sym first ∙ ap is_started is))
     fits_step (Saving text is saves) = puts text is saves
     fits_step (Getting text is fits) = gets text is (in_attempt sync.attempt own (Gets read sync text middle) runs.0 fits)
     fits_step (Acting link started_not no_got quiet same) =
         skip quiet (ap (λ (it : Sync). it.set) same)
-        (onward (and_event event own) taken (running_on sync before own event middle link (ap (λ (it : Sync). it.attempt) same) runs) (subst (λ owed. Rises read (own.events ++ event ∷ []) owed taken) (sym (ap (λ (it : Sync). it.owed) same)) (rises_more read own.events event sync.owed taken rises)))
+        (onward (and_event event own) taken refl (running_on sync before own event middle link (ap (λ (it : Sync). it.attempt) same) runs) (subst (λ owed. Rises read (own.events ++ event ∷ []) owed taken) (sym (ap (λ (it : Sync). it.owed) same)) (rises_more read own.events event sync.owed taken rises)))
 
-  fits_along : (whole before events : List Event) (sync now : Sync) (own : Running) (taken : List LaneState) → list_any is_started events ≡ false → IsRunning sync before own → Rises read own.events sync.owed taken → Goes streams read asked whole sync events now → SavesFit streams read rising taken sync.set before events
-  fits_along whole before [] sync now own taken none runs rises goes = tt
-  fits_along whole before (event ∷ events) sync now own taken none runs rises (middle, step, rest) =
-      fits_step whole before event events sync middle own taken (none_first (is_started event) (list_any is_started events) none) runs rises
-      (λ next more runs_on rises_on. fits_along (whole ++ event ∷ []) (before ++ event ∷ []) events middle now next more (none_rest (is_started event) (list_any is_started events) none) runs_on rises_on rest)
+  pub fits_along : (whole before events : List Event) (sync now : Sync) (own : Running) (taken : List LaneState) → list_any is_started events ≡ false → Q whole before events own → IsRunning sync before own → Rises read own.events sync.owed taken → Goes streams read asked whole sync events now → SavesFit streams read asking taken sync.set before events
+  fits_along whole before [] sync now own taken none with runs rises goes = tt
+  fits_along whole before (event ∷ events) sync now own taken none with runs rises (middle, step, rest) =
+      fits_step whole before event events sync middle own taken (none_first (is_started event) (list_any is_started events) none) with runs rises
+      (λ next more same runs_on rises_on. fits_along (whole ++ event ∷ []) (before ++ event ∷ []) events middle now next more (none_rest (is_started event) (list_any is_started events) none) (goes_with whole before event events own next same with) runs_on rises_on rest)
       (kind_of streams read (IsAsked streams asked whole) sync event middle step)
+
+pub none_put : (read : Reading) (events : List Event) (owed : Option LaneState) → owed ≡ None → Rises read events owed []
+none_put read events owed none = record { all = tt; last = λ state is. absurd (some_none (sym is ∙ none)) }
 
 pub saved_rise : SavedRise
 saved_rise streams read asked front plan events now none leads =
@@ -285,6 +301,8 @@ saved_rise streams read asked front plan events now none leads =
       held = between.set;
       stored_is = store_holds streams read asked front between first;
       fits = subst (λ set. SavesFit streams read rising [] set [] events) (ap (λ (it : Sync). it.set) step.1)
-          (fits_along streams read asked (front ++ Started plan ∷ []) [] events middle now (record { start = between.set; events = [] }) [] none (ap (λ (it : Sync). it.attempt) step.1, refl)
-          (record { all = tt; last = λ state owed. absurd (some_none (sym owed ∙ ap (λ (it : Sync). it.owed) step.1)) }) rest);
+          (fits_along streams read asked rising (λ whole before rest own. Unit {0}) (λ whole before event rest own next same with. tt)
+          (λ whole before rest sync own taken set with runs rises put. all_behind_it read own.events taken put.state (rises.last put.state put.owed))
+          (front ++ Started plan ∷ []) [] events middle now (record { start = between.set; events = [] }) [] none tt (ap (λ (it : Sync). it.attempt) step.1, refl)
+          (none_put read [] middle.owed (ap (λ (it : Sync). it.owed) step.1)) rest);
     }

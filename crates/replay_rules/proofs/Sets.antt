@@ -114,7 +114,7 @@ is_done (Err why) = false
 pub ok_is : (set other : Saved) → done set ≡ done other → set ≡ other
 ok_is set other e = ap (set_or set) e
 
-err_ok : (why : StateFault) (set : Saved) → refused why ≡ done set → ⊥
+pub err_ok : (why : StateFault) (set : Saved) → refused why ≡ done set → ⊥
 err_ok why set e = false≢true (ap is_done e)
 
 -- a lane's state stays, or it is the lane of the state that is put, and has that

@@ -1,5 +1,5 @@
 // The laws of retries, each as the contract of a function that does nothing.
-ghost use Rattle.replay_rules.specs.Laws.{CallsStaySound, FrontsAreSound, SavedAreCommitted, SavedRise};
+ghost use Rattle.replay_rules.specs.Laws.{CallsStaySound, FrontsAreSound, SavedAreCommitted, SavedRise, SavedStand};
 
 /// A sound trace stays sound by a call of honest attempts of the same source.
 pub fn calls_stay_sound()
@@ -14,6 +14,11 @@ pub fn fronts_are_sound()
 /// The states that an attempt's sets take rise within each lane.
 pub fn saved_rise()
     ensures { SavedRise }
+{}
+
+/// What these states cover stands in the store's tables, in the generation that the sets have.
+pub fn saved_stand()
+    ensures { SavedStand }
 {}
 
 /// Each body before the place of a saved state is committed.
