@@ -11,3 +11,4 @@ pub mod SavedBack
 pub mod Sounds
 pub mod Gens
 pub mod Standing
+pub mod Worked

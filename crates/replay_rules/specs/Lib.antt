@@ -5,3 +5,4 @@ pub mod Whole
 pub mod Saves
 pub mod Ends
 pub mod Laws
+pub mod Examples

@@ -1,4 +1,5 @@
 // The laws of retries, each as the contract of a function that does nothing.
+ghost use Rattle.replay_rules.specs.Examples.{ReplaysAsWorked};
 ghost use Rattle.replay_rules.specs.Laws.{CallsStaySound, FrontsAreSound, SavedAreCommitted, SavedRise, SavedStand};
 
 /// A sound trace stays sound by a call of honest attempts of the same source.
@@ -24,4 +25,9 @@ pub fn saved_stand()
 /// Each body before the place of a saved state is committed.
 pub fn saved_are_committed()
     ensures { SavedAreCommitted }
+{}
+
+/// Attempts of sources that were worked by hand.
+pub fn replays_as_worked()
+    ensures { ReplaysAsWorked }
 {}
