@@ -12,3 +12,5 @@ pub mod Sounds
 pub mod Gens
 pub mod Standing
 pub mod Worked
+pub mod Numbers
+pub mod Latest

@@ -1,6 +1,6 @@
 -- What retries leave: each saved state has all records before it committed, saved states follow the source's order, and an attempt that
 -- ends well leaves each table as one uninterrupted sync leaves it.
-use Rattle.std.specs.Prelude.{◌≡◌, ◌⊎◌, ℕ, ◌<◌, ◌≤◌, List, [], ◌∷◌, ◌++◌, map, count_by, Bool, true, false, slice_get, Contains, Some, Ok}
+use Rattle.std.specs.Prelude.{◌≡◌, ◌⊎◌, ℕ, ◌<◌, ◌≤◌, List, [], ◌∷◌, ◌++◌, map, length, count_by, Bool, true, false, slice_get, Contains, Some, Ok}
 use Rattle.std.specs.List.{AllByRecursion, list_any}
 use Rattle.basics.specs.declared.stream.StreamId.{StreamId}
 use Rattle.outside.specs.Event.{stored}
@@ -40,6 +40,7 @@ use Rattle.replay_rules.specs.Sound.{BeginsUnopened, IsSound}
 use Rattle.replay_rules.specs.Whole.{IsWhole, bodies_of, cells_of, columns_of}
 use Rattle.replay_rules.specs.Saves.{SavesFit, rising, standing}
 use Rattle.replay_rules.specs.Ends.{EndsWell}
+use Rattle.replay_rules.specs.Copies.{HasLatest}
 
 -- ---- soundness
 
@@ -109,6 +110,21 @@ SavedAreCommitted =
     → IsReading read trace → AreOrderly streams → IsSound streams read source trace → ReadsStore (stored trace) (Ok set)
     → (id : StreamId) (place : ℕ) (body : Body) → is_known (ids_of streams) id ≡ true → place < start_of source set id → slice_get (source.list (lane_for source id)) place ≡ Some body
     → IsBodyCommitted streams trace body
+
+-- Of each body before the place of a saved state some copy follows every copy of every body before it, whatever attempts committed
+-- them.
+abbrev pub SavedAreLatest : Type 0
+SavedAreLatest =
+    (streams : List ConfStream) (read : Reading) (source : Source) (trace : List Event) (set : Saved)
+    → IsReading read trace → AreOrderly streams → IsSound streams read source trace → ReadsStore (stored trace) (Ok set)
+    → (id : StreamId) → is_known (ids_of streams) id ≡ true → HasLatest streams read source id trace (start_of source set id)
+
+-- The same behind an attempt that ends well, of each body of the source.
+abbrev pub AllAreLatest : Type 0
+AllAreLatest =
+    (streams : List ConfStream) (read : Reading) (source : Source) (trace : List Event)
+    → IsReading read trace → AreOrderly streams → IsSound streams read source trace → EndsWell (ids_of streams) read trace
+    → (id : StreamId) → is_known (ids_of streams) id ≡ true → HasLatest streams read source id trace (length (source.list (lane_for source id)))
 
 -- ---- tables
 

@@ -4,5 +4,6 @@ pub mod Sound
 pub mod Whole
 pub mod Saves
 pub mod Ends
+pub mod Copies
 pub mod Laws
 pub mod Examples

@@ -1,6 +1,6 @@
 // The laws of retries, each as the contract of a function that does nothing.
 ghost use Rattle.replay_rules.specs.Examples.{ReplaysAsWorked};
-ghost use Rattle.replay_rules.specs.Laws.{CallsStaySound, FrontsAreSound, SavedAreCommitted, SavedRise, SavedStand};
+ghost use Rattle.replay_rules.specs.Laws.{CallsStaySound, FrontsAreSound, SavedAreCommitted, SavedAreLatest, SavedRise, SavedStand};
 
 /// A sound trace stays sound by a call of honest attempts of the same source.
 pub fn calls_stay_sound()
@@ -25,6 +25,11 @@ pub fn saved_stand()
 /// Each body before the place of a saved state is committed.
 pub fn saved_are_committed()
     ensures { SavedAreCommitted }
+{}
+
+/// Of each of them some copy follows every copy of every body before it.
+pub fn saved_are_latest()
+    ensures { SavedAreLatest }
 {}
 
 /// Attempts of sources that were worked by hand.
