@@ -14,3 +14,5 @@ pub mod Standing
 pub mod Worked
 pub mod Numbers
 pub mod Latest
+pub mod Settled
+pub mod WellEnded

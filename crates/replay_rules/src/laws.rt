@@ -1,6 +1,6 @@
 // The laws of retries, each as the contract of a function that does nothing.
 ghost use Rattle.replay_rules.specs.Examples.{ReplaysAsWorked};
-ghost use Rattle.replay_rules.specs.Laws.{CallsStaySound, FrontsAreSound, SavedAreCommitted, SavedAreLatest, SavedRise, SavedStand};
+ghost use Rattle.replay_rules.specs.Laws.{AllAreLatest, CallsStaySound, FrontsAreSound, SavedAreCommitted, SavedAreLatest, SavedRise, SavedStand};
 
 /// A sound trace stays sound by a call of honest attempts of the same source.
 pub fn calls_stay_sound()
@@ -30,6 +30,11 @@ pub fn saved_are_committed()
 /// Of each of them some copy follows every copy of every body before it.
 pub fn saved_are_latest()
     ensures { SavedAreLatest }
+{}
+
+/// Behind an attempt that ends well it is so for each body of the source.
+pub fn all_are_latest()
+    ensures { AllAreLatest }
 {}
 
 /// Attempts of sources that were worked by hand.
