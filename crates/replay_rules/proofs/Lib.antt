@@ -16,3 +16,5 @@ pub mod Numbers
 pub mod Latest
 pub mod Settled
 pub mod WellEnded
+pub mod RowCopies
+pub mod CopyRows

@@ -44,7 +44,7 @@ none_rest : (a b : Bool) → (a || b) ≡ false → b ≡ false
 none_rest true b is = absurd (false≢true (sym is))
 none_rest false b is = is
 
-gives_links : (events : List Event) → gives (filter is_links events) ≡ gives events
+pub gives_links : (events : List Event) → gives (filter is_links events) ≡ gives events
 gives_links [] = refl
 gives_links ((Opened x y z) ∷ events) = gives_links events
 gives_links ((Took x) ∷ events) = gives_links events
@@ -63,7 +63,7 @@ gives_links (GotEnd ∷ events) = gives_links events
 gives_links ((Saved x) ∷ events) = gives_links events
 gives_links ((Ended x) ∷ events) = gives_links events
 
-over_links : (over : Bool) (events : List Event) → fold read_over_after over (filter is_links events) ≡ fold read_over_after over events
+pub over_links : (over : Bool) (events : List Event) → fold read_over_after over (filter is_links events) ≡ fold read_over_after over events
 over_links over [] = refl
 over_links over ((Opened x y z) ∷ events) = over_links over events
 over_links over ((Took x) ∷ events) = over_links over events
@@ -82,7 +82,7 @@ over_links over (GotEnd ∷ events) = over_links (read_over_after over GotEnd) e
 over_links over ((Saved x) ∷ events) = over_links (read_over_after over (Saved x)) events
 over_links over ((Ended x) ∷ events) = over_links (read_over_after over (Ended x)) events
 
-reread : (read : Reading) (test : Line → Bool) (list : List (List ℕ)) → lines_read read (texts (filter test (lines_read read list))) ≡ filter test (lines_read read list)
+pub reread : (read : Reading) (test : Line → Bool) (list : List (List ℕ)) → lines_read read (texts (filter test (lines_read read list))) ≡ filter test (lines_read read list)
 reread read test [] = refl
 reread read test (text ∷ list) = at (test (line_read read text)) (reread read test list)
   where

@@ -16,7 +16,7 @@ use Rattle.load_rules.specs.Attempts.{Attempt, attempts, passed}
 use Rattle.state_kinds.specs.Saved.{Saved}
 use Rattle.state_kinds.specs.Texts.{states_text}
 use Rattle.state_kinds.specs.Writable.{IsWritable}
-use Rattle.replay_rules.specs.Sources.{Source, lane_for, start_of}
+use Rattle.replay_rules.specs.Sources.{Body, Source, lane_for, start_of}
 
 -- an attempt, and where it starts in a stream's list
 pub record Try : Type 0 where
@@ -66,3 +66,29 @@ pub record HasLatest (streams : List ConfStream) (read : Reading) (source : Sour
   pub are : map (λ one_try. one_try.attempt) tries ≡ attempts trace
   pub each : AllByRecursion (IsTry (ids_of streams) source id) tries
   pub latest : (place : ℕ) → place < next → (row : RawRow) × IsLatest streams read source id tries place row
+
+-- a row of a stream that an attempt has committed is a copy of a body of the stream, which the source's list has at the copy's place
+pub record ComesFrom (streams : List ConfStream) (read : Reading) (source : Source) (id : StreamId) (one_try : Try) (row : RawRow) : Type 0 where
+  pub place : ℕ
+  pub body : Body
+  pub listed : slice_get (source.list (lane_for source id)) place ≡ Some body
+  pub own : body.id ≡ id
+  pub same : row.body ≡ body.body
+  pub copy : IsCopyOf streams read source id one_try place row
+
+-- a commit of rows of this stream, by the stream's number
+pub record IsCommitOf (streams : List ConfStream) (id : StreamId) (attempt : Attempt) (rows : List RawRow) : Type 0 where
+  pub load : Load
+  pub in_attempt : Contains (loads attempt.events) load
+  pub number : ℕ
+  pub commit : Contains load.events (event.Committed number rows)
+  pub stream : ConfStream
+  pub configured : slice_get streams number ≡ Some stream
+  pub of : stream.id ≡ id
+
+-- the attempts of the trace, each with where it starts: every row of the stream that they have committed is a copy
+pub record HasCopies (streams : List ConfStream) (read : Reading) (source : Source) (id : StreamId) (trace : List Event) : Type 0 where
+  pub tries : List Try
+  pub are : map (λ one_try. one_try.attempt) tries ≡ attempts trace
+  pub each : AllByRecursion (IsTry (ids_of streams) source id) tries
+  pub copies : (one_try : Try) (rows : List RawRow) (row : RawRow) → Contains tries one_try → IsCommitOf streams id one_try.attempt rows → Contains rows row → ComesFrom streams read source id one_try row

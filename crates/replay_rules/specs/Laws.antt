@@ -40,7 +40,7 @@ use Rattle.replay_rules.specs.Sound.{BeginsUnopened, IsSound}
 use Rattle.replay_rules.specs.Whole.{IsWhole, bodies_of, cells_of, columns_of}
 use Rattle.replay_rules.specs.Saves.{SavesFit, rising, standing}
 use Rattle.replay_rules.specs.Ends.{EndsWell}
-use Rattle.replay_rules.specs.Copies.{HasLatest}
+use Rattle.replay_rules.specs.Copies.{HasCopies, HasLatest}
 
 -- ---- soundness
 
@@ -110,6 +110,12 @@ SavedAreCommitted =
     → IsReading read trace → AreOrderly streams → IsSound streams read source trace → ReadsStore (stored trace) (Ok set)
     → (id : StreamId) (place : ℕ) (body : Body) → is_known (ids_of streams) id ≡ true → place < start_of source set id → slice_get (source.list (lane_for source id)) place ≡ Some body
     → IsBodyCommitted streams trace body
+
+-- Every row of a configured stream that a sound trace has committed is a copy of a body of the source.
+abbrev pub RowsAreCopies : Type 0
+RowsAreCopies =
+    (streams : List ConfStream) (read : Reading) (source : Source) (trace : List Event)
+    → IsReading read trace → AreOrderly streams → IsSound streams read source trace → (id : StreamId) → is_known (ids_of streams) id ≡ true → HasCopies streams read source id trace
 
 -- Of each body before the place of a saved state some copy follows every copy of every body before it, whatever attempts committed
 -- them.

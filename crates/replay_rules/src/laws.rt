@@ -1,6 +1,6 @@
 // The laws of retries, each as the contract of a function that does nothing.
 ghost use Rattle.replay_rules.specs.Examples.{ReplaysAsWorked};
-ghost use Rattle.replay_rules.specs.Laws.{AllAreLatest, CallsStaySound, FrontsAreSound, SavedAreCommitted, SavedAreLatest, SavedRise, SavedStand};
+ghost use Rattle.replay_rules.specs.Laws.{AllAreLatest, CallsStaySound, FrontsAreSound, RowsAreCopies, SavedAreCommitted, SavedAreLatest, SavedRise, SavedStand};
 
 /// A sound trace stays sound by a call of honest attempts of the same source.
 pub fn calls_stay_sound()
@@ -27,7 +27,12 @@ pub fn saved_are_committed()
     ensures { SavedAreCommitted }
 {}
 
-/// Of each of them some copy follows every copy of every body before it.
+/// Every committed row of a configured stream is a copy of a body of the source.
+pub fn rows_are_copies()
+    ensures { RowsAreCopies }
+{}
+
+/// Of each body before a saved state some copy follows every copy of every body before it.
 pub fn saved_are_latest()
     ensures { SavedAreLatest }
 {}
