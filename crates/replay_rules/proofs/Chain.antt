@@ -1,21 +1,18 @@
 -- The attempts of a sync of a source that can be replayed: each starts where the one before it left its saved state, and commits what
 -- stands between.
-use Rattle.std.proofs.Common.{arith, ◌≡◌, ◌⊎◌, inl, inr, ℕ, ◌+◌, ◌-◌, ◌<◌, ◌≤◌, List, [], ◌∷◌, ◌++◌, map, length, slice_get, Option, None, Some, Bool, true, false, refl, sym, ◌∙◌, ap, subst, append_assoc, append-nil}
-use Rattle.std.specs.Prelude.{Ok, option_map, Contains}
+use Rattle.std.proofs.Common.{arith, ◌≡◌, ◌⊎◌, inl, inr, ℕ, ◌-◌, ◌<◌, ◌≤◌, List, [], ◌∷◌, ◌++◌, length, slice_get, Option, None, Some, true, false, refl, sym, ◌∙◌, ap, subst, append_assoc, append-nil}
+use Rattle.std.specs.Prelude.{Ok}
 use Rattle.std.specs.List.{AllByRecursion}
 use Rattle.std.proofs.lemmas.List.{length-map}
 use Rattle.basics.specs.declared.stream.StreamId.{StreamId}
-use Rattle.outside.specs.Event.{is_links}
-use Rattle.outside.specs.declared.event.AttemptPlan.{AttemptPlan}
 use Rattle.outside.specs.declared.event.Event.{Event}
-use Rattle.outside.specs.declared.event.Event.TheVariants.{Started, Got, Saved}
 use Rattle.airbyte_message.specs.Lanes.{Lane, one, all, lane_of}
 use Rattle.catalog.specs.Reading.{ids_of}
 use Rattle.catalog.specs.declared.stream.ConfStream.{ConfStream}
 use Rattle.catalog.specs.declared.stream.Gen.{Gen}
-use Rattle.dedup_merge.proofs.SameRowLemmas.{Has, has_from, has_passed, has_kept}
-use Rattle.load_rules.specs.Prefixes.{IsPrefix, with_first}
-use Rattle.load_rules.specs.Lines.{Line, Reading, ReadsEvent, IsReading, is_known}
+use Rattle.dedup_merge.proofs.SameRowLemmas.{Has, has_from, has_passed}
+use Rattle.load_rules.specs.Prefixes.{with_first}
+use Rattle.load_rules.specs.Lines.{Reading, ReadsEvent, IsReading}
 use Rattle.load_rules.specs.Taken.{Entry, entries, covers, LaneState, states, states_behind}
 use Rattle.load_rules.specs.Attempts.{Attempt, attempts, attempts_after, attempt_with, attempt_events, passed}
 use Rattle.load_rules.specs.Honest.{IsCommitted}
@@ -26,17 +23,17 @@ use Rattle.state_kinds.specs.Changes.{Given, given_of, begun, put_into}
 use Rattle.state_kinds.specs.Texts.{states_text}
 use Rattle.state_kinds.specs.Writable.{IsWritable}
 use Rattle.sync_rules.specs.Generations.{Begins}
-use Rattle.sync_rules.specs.Sync.{Running, Sync, no_sync, started}
-use Rattle.sync_rules.specs.Steps.{Step, Starts, Saves, Puts, Gets, InAttempt}
-use Rattle.sync_rules.specs.SafeSync.{Asked, commits, Goes, Leads, IsAsked, IsCovered}
+use Rattle.sync_rules.specs.Sync.{Running, Sync, no_sync}
+use Rattle.sync_rules.specs.Steps.{Saves, Puts, Gets, InAttempt}
+use Rattle.sync_rules.specs.SafeSync.{commits, Goes, Leads, IsCovered}
 use Rattle.sync_rules.specs.Laws.{AreOrderly, Knows, KnowsAttempt}
 use Rattle.sync_rules.proofs.Backs.{saved_reads_back}
 use Rattle.sync_rules.proofs.Honest.{knows_step}
-use Rattle.sync_rules.proofs.KindLemmas.{all_front, all_has, by_bool, some_is, some_none}
+use Rattle.sync_rules.proofs.KindLemmas.{all_front, all_has, some_is, some_none}
 use Rattle.sync_rules.proofs.Ways.{stays_safe}
-use Rattle.replay_rules.specs.Sources.{Body, Source, lane_for, place_of, held_in, start_of, rest_of, body_told, bodies}
+use Rattle.replay_rules.specs.Sources.{Source, lane_for, place_of, held_in, start_of, body_told, bodies}
 use Rattle.replay_rules.specs.Replayed.{IsPlaced, IsReplayable}
-use Rattle.replay_rules.proofs.Attempts.{attempts-one, attempts-on, by_start, front_back}
+use Rattle.replay_rules.proofs.Attempts.{attempts-one, attempts-on, front_back}
 use Rattle.replay_rules.proofs.Committed.{Stands, stands_on}
 use Rattle.replay_rules.proofs.StepKinds.{StepKind, Stores, Starting, Saving, Getting, Acting, kind_of}
 use Rattle.replay_rules.proofs.Lines.{At, at_of, get_has, lane_entries, nth_front, passed-append, passed_links, IsAmong, among}

@@ -1,10 +1,7 @@
 -- What an attempt has committed stays so.
-use Rattle.std.proofs.Common.{◌≡◌, ◌⊎◌, inl, inr, ℕ, List, [], ◌∷◌, ◌++◌, slice_get, Some, Bool, true, false, refl, sym, ◌∙◌, ap, subst}
+use Rattle.std.proofs.Common.{◌≡◌, inl, inr, ℕ, List, [], ◌∷◌, ◌++◌, slice_get, Some, refl, sym, ◌∙◌, ap, subst}
 use Rattle.std.specs.Prelude.{Contains}
 use Rattle.std.proofs.lemmas.List.Elements.{Contains-append_left}
-use Rattle.std.proofs.lemmas.Bool.{false≢true}
-use Rattle.basics.specs.declared.stream.StreamId.{StreamId}
-use Rattle.outside.specs.Dock.{is_opening}
 use Rattle.outside.specs.Event.{is_links}
 use Rattle.outside.specs.declared.event.Event.{Event}
 use Rattle.outside.specs.declared.event.Event.TheVariants.{Opened, Took, TookEnd, Committed, Emitted, Merged, Shown, Started, ReadLine, ReadEnd, Given, Closed, Got, GotEnd, Saved, Ended}
@@ -19,7 +16,7 @@ use Rattle.load_rules.specs.Taken.{Entry}
 use Rattle.load_rules.specs.Rows.{IsRowOf}
 use Rattle.load_rules.specs.Loads.{Load, loads, loads_after, with_event}
 use Rattle.load_rules.specs.Attempts.{passed}
-use Rattle.load_rules.specs.Honest.{IsCommittedIn, IsCommitted}
+use Rattle.load_rules.specs.Honest.{IsCommitted}
 use Rattle.load_rules.proofs.SafeAttempts.{loads_link, loads_own}
 use Rattle.sync_rules.proofs.KindLemmas.{by_bool}
 use Rattle.replay_rules.proofs.Lines.{lane_entries, nth_front, passed-append}

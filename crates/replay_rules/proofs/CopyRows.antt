@@ -1,35 +1,32 @@
 -- Every committed row of a stream stands at a place of the stream's list.
-use Rattle.std.proofs.Common.{arith, ◌≡◌, ◌⊎◌, inl, inr, ℕ, zero, suc, ◌+◌, List, [], ◌∷◌, ◌++◌, map, slice_get, Option, None, Some, Bool, true, false, cond, refl, sym, ◌∙◌, ap, subst}
-use Rattle.std.specs.Prelude.{Contains, fold}
-use Rattle.std.specs.List.{AllByRecursion}
+use Rattle.std.proofs.Common.{◌≡◌, inl, inr, ℕ, zero, suc, ◌+◌, List, [], ◌∷◌, map, slice_get, Some, Bool, true, false, cond, refl, sym, ◌∙◌, ap, subst}
+use Rattle.std.specs.Prelude.{fold}
 use Rattle.basics.specs.declared.stream.StreamId.{StreamId}
 use Rattle.outside.proofs.TableLaws.{id_own}
 use Rattle.outside.specs.declared.event.Event.{Event}
 use Rattle.outside.specs.declared.event.Event.TheVariants.{Committed}
 use Rattle.outside.specs.declared.event.RawRow.{RawRow}
-use Rattle.airbyte_message.specs.Lanes.{Lane, one, all}
+use Rattle.airbyte_message.specs.Lanes.{one, all}
 use Rattle.catalog.specs.Reading.{ids_of}
 use Rattle.catalog.specs.declared.stream.ConfStream.{ConfStream}
 use Rattle.dedup_merge.proofs.SameRowLemmas.{Has, has_from, has_kept, has_to}
 use Rattle.load_rules.specs.Lines.{Reading, IsReading, ReadsEvent, lines_read, is_known}
-use Rattle.load_rules.specs.Taken.{Entry, entries, covers}
+use Rattle.load_rules.specs.Taken.{entries, covers}
 use Rattle.load_rules.specs.Loads.{Load, loads, loads_after, tooks}
 use Rattle.load_rules.specs.SafeDest.{IsSafeLoad}
-use Rattle.load_rules.specs.Attempts.{Attempt, attempts, passed}
+use Rattle.load_rules.specs.Attempts.{attempts, passed}
 use Rattle.load_rules.specs.Laws.{IsSafeAttempt}
 use Rattle.load_rules.proofs.Pipes.{MayLoad, may_load}
 use Rattle.load_rules.proofs.SafeAttempts.{attempts_are_safe}
-use Rattle.state_kinds.specs.Saved.{Saved as Set}
 use Rattle.sync_rules.specs.Sync.{no_sync}
 use Rattle.sync_rules.specs.Laws.{AreOrderly}
 use Rattle.sync_rules.proofs.KindLemmas.{all_has, some_is}
-use Rattle.replay_rules.specs.Sources.{Body, Source, lane_for, start_of, rest_of, body_told, bodies}
+use Rattle.replay_rules.specs.Sources.{Source, lane_for, start_of, body_told, bodies}
 use Rattle.replay_rules.specs.Replayed.{IsReplayable}
-use Rattle.replay_rules.specs.Sound.{IsSound}
 use Rattle.replay_rules.specs.Copies.{Try, IsTry, ComesFrom, IsCommitOf}
 use Rattle.replay_rules.specs.Laws.{RowsAreCopies}
 use Rattle.replay_rules.proofs.Chain.{chain_of}
-use Rattle.replay_rules.proofs.Latest.{Tried, tried, attempt_of}
+use Rattle.replay_rules.proofs.Latest.{tried, attempt_of}
 use Rattle.replay_rules.proofs.Lines.{get_drop, get_front, lane_entries, nth_body}
 use Rattle.replay_rules.proofs.RowCopies.{GivesIn, given_along, given_entry, given_from, taken_entry, load_row}
 use Rattle.replay_rules.proofs.SavedBack.{AreAll, EventsAre, attempts_are}
@@ -69,7 +66,7 @@ module _ (streams : List ConfStream) (read : Reading) (source : Source) (id : St
   row_from one_try rows row of safe given right replayable commit has =
       let in_loads = has_from (loads one_try.attempt.events) commit.load commit.in_attempt in
       let made = load_row streams read commit.load commit.number rows row (all_has (IsSafeLoad streams read) commit.load (loads one_try.attempt.events) safe.safe.each in_loads)
-          (has_from commit.load.events (Committed commit.number rows) commit.commit) has in
+      (has_from commit.load.events (Committed commit.number rows) commit.commit) has in
       let took = subst (λ texts. Has made.entry (entries (lines_read read texts))) (same_tooks one_try.attempt.events commit.load (may_load one_try.attempt.events safe.opens) in_loads) made.among in
       let gave = taken_entry read one_try.attempt.events made.entry (given_from read [] one_try.attempt.events safe.takes ([], refl)) took in
       let on = given_entry (ids_of streams) read one_try.attempt made.entry orderly.names right given gave in
@@ -110,13 +107,13 @@ rows_are_copies streams read source trace right orderly sound id known =
       are = found.are;
       each = found.each;
       copies = λ one_try rows row among commit in_rows. (
-        let has = has_from found.tries one_try among in
-        let there : Has one_try.attempt (attempts trace) = subst (Has one_try.attempt) found.are (has_of attempt_of one_try found.tries has) in
-        row_from streams read source id known orderly one_try rows row
-        (all_has (IsTry (ids_of streams) source id) one_try found.tries found.each has)
-        (all_has (IsSafeAttempt streams read) one_try.attempt (attempts trace) (attempts_are_safe streams read trace sound.engine) there)
-        (all_has (GivesIn (ids_of streams) read) one_try.attempt (attempts trace) (given_along streams read [] trace no_sync sound.safe.0 sound.safe.1 tt tt tt) there)
-        (all_has (EventsAre (ReadsEvent read)) one_try.attempt (attempts trace) (attempts_are (ReadsEvent read) [] trace tt (right_events read trace right)) there)
-        (all_has (IsReplayable (ids_of streams) read source) one_try.attempt (attempts trace) sound.replayable there)
-        commit (has_from rows row in_rows));
+          let has = has_from found.tries one_try among in
+          let there : Has one_try.attempt (attempts trace) = subst (Has one_try.attempt) found.are (has_of attempt_of one_try found.tries has) in
+          row_from streams read source id known orderly one_try rows row
+          (all_has (IsTry (ids_of streams) source id) one_try found.tries found.each has)
+          (all_has (IsSafeAttempt streams read) one_try.attempt (attempts trace) (attempts_are_safe streams read trace sound.engine) there)
+          (all_has (GivesIn (ids_of streams) read) one_try.attempt (attempts trace) (given_along streams read [] trace no_sync sound.safe.0 sound.safe.1 tt tt tt) there)
+          (all_has (EventsAre (ReadsEvent read)) one_try.attempt (attempts trace) (attempts_are (ReadsEvent read) [] trace tt (right_events read trace right)) there)
+          (all_has (IsReplayable (ids_of streams) read source) one_try.attempt (attempts trace) sound.replayable there)
+          commit (has_from rows row in_rows));
     }

@@ -1,20 +1,18 @@
 -- The generations that an attempt gives: those of its catalog's text, those of its load, and those that its sets hold.
-use Rattle.std.proofs.Common.{arith, ◌≡◌, ◌⊎◌, inl, inr, ℕ, ◌+◌, ◌<◌, ◌≤◌, eqb-true, List, [], ◌∷◌, ◌++◌, map, find, Option, None, Some, Bool, true, false, cond, refl, sym, ◌∙◌, ap, ap₂, subst, ltb-false}
-use Rattle.std.specs.Prelude.{filter, not, nat_lt, option_map, is_some, unwrap_or, Result, Ok, Err, Contains, All, ◌==◌, ◌||◌}
+use Rattle.std.proofs.Common.{arith, ◌≡◌, inl, inr, ℕ, ◌≤◌, eqb-true, List, [], ◌∷◌, ◌++◌, map, find, Option, None, Some, Bool, true, false, cond, refl, sym, ◌∙◌, ap, subst, ltb-false}
+use Rattle.std.specs.Prelude.{filter, not, nat_lt, option_map, is_some, unwrap_or, Result, Ok, Err, ◌==◌, ◌||◌}
 use Rattle.std.specs.List.{AllByRecursion, list_any, zip}
 use Rattle.std.proofs.lemmas.Bool.{false≢true}
 use Rattle.std.proofs.lemmas.List.Elements.{All-from_recursion, recursion_from_All}
 use Rattle.basics.specs.declared.limits.TheConstants.{GREATEST_GENERATION}
 use Rattle.basics.specs.declared.stream.StreamId.{StreamId}
-use Rattle.stream_index.specs.Distinct.{AreDistinct}
 use Rattle.stream_index.specs.Same.{is_same_stream}
 use Rattle.stream_index.proofs.IndexLemmas.{Decides-stream}
 use Rattle.outside.specs.declared.event.Event.{Event}
 use Rattle.outside.specs.declared.event.StreamPlan.{StreamPlan}
 use Rattle.outside.specs.declared.faults.CatalogFault.{CatalogFault}
-use Rattle.outside.specs.declared.load.Marks.{Marks}
 use Rattle.catalog.specs.Configured.{AreConfigured, IsConfigured, IsWithinLimit}
-use Rattle.catalog.specs.Reading.{ReadsAs, ids_of}
+use Rattle.catalog.specs.Reading.{ids_of}
 use Rattle.catalog.specs.Written.{IsCatalogText, IsFit, with_gen, with_gens}
 use Rattle.catalog.specs.declared.stream.ConfStream.{ConfStream}
 use Rattle.catalog.specs.declared.stream.Gen.{Gen}
@@ -34,7 +32,7 @@ use Rattle.state_kinds.specs.Store.{repeats_stream}
 use Rattle.state_kinds.specs.Changes.{Given, given_of, generation_of, renewed_to, renewed, new_entry, added, begun, with_state, put_kind, put_into}
 use Rattle.state_kinds.proofs.OnceLemmas.{distinct_once}
 use Rattle.sync_rules.specs.Generations.{Begins, Held, gen_of, gens_of, generations_in, last_generation, restarted, restarts}
-use Rattle.sync_rules.proofs.KindLemmas.{by_bool, has_map, or_cases, or_left, some_is, some_none}
+use Rattle.sync_rules.proofs.KindLemmas.{by_bool, has_map, or_left, some_is, some_none}
 use Rattle.sync_rules.proofs.Takings.{one_gen}
 use Rattle.replay_rules.proofs.Sets.{done, refused, err_ok, ok_is as set_is}
 

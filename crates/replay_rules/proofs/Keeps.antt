@@ -1,5 +1,5 @@
 -- A row that is committed stands in its table as long as its load goes on.
-use Rattle.std.proofs.Common.{arith, ◌≡◌, ◌⊎◌, inl, inr, ℕ, zero, suc, ◌+◌, ◌<◌, ◌≤◌, max, nat_le, List, [], ◌∷◌, ◌++◌, map, filter, slice_get, Option, None, Some, Bool, true, false, cond, refl, sym, ◌∙◌, ap, subst, append_assoc, append-nil}
+use Rattle.std.proofs.Common.{arith, ◌≡◌, ◌⊎◌, inl, inr, ℕ, zero, suc, ◌+◌, ◌<◌, ◌≤◌, List, [], ◌∷◌, ◌++◌, map, filter, slice_get, Option, None, Some, Bool, true, false, refl, sym, ◌∙◌, ap, subst, append_assoc, append-nil}
 use Rattle.std.specs.Prelude.{slice_set, ◌||◌}
 use Rattle.std.specs.List.{list_any}
 use Rattle.std.proofs.lemmas.Bool.{cases_Bool, false≢true}
@@ -23,7 +23,6 @@ use Rattle.load_rules.specs.Prefixes.{EachFits}
 use Rattle.load_rules.specs.Stores.{StoreFits, IsStoreRun}
 use Rattle.load_rules.proofs.SideHolds.{has_left, IsAbove}
 use Rattle.load_rules.proofs.Sides.{run_holds}
-use Rattle.load_rules.proofs.TakenLists.{each_more}
 
 some_is : {A : Type 0} {x y : A} → Some x ≡ Some y → x ≡ y
 some_is e = cc
@@ -83,7 +82,7 @@ rows_more : (table : StreamTable) (more : List PlacedRow) (row : RawRow) → Has
 rows_more table more row has = subst (λ rows. Has row rows) (sym (map-append row_of table.rows more)) (has_left row (map row_of table.rows) (map row_of more) has)
 
 -- the table of a stream behind a change of one
-changed_table : (change : StreamTable → StreamTable) (own id : StreamId) (tables : List StreamTable) → KeepsId change → ((own ≡ id) × (table_in (changed change own tables) id ≡ change (table_in tables id))) ⊎ ((same_id own id ≡ false) × (table_in (changed change own tables) id ≡ table_in tables id))
+pub changed_table : (change : StreamTable → StreamTable) (own id : StreamId) (tables : List StreamTable) → KeepsId change → ((own ≡ id) × (table_in (changed change own tables) id ≡ change (table_in tables id))) ⊎ ((same_id own id ≡ false) × (table_in (changed change own tables) id ≡ table_in tables id))
 changed_table change own id tables keeps = at (cases_Bool (same_id own id))
   where
     at : (same_id own id ≡ true) ⊎ (same_id own id ≡ false) → ((own ≡ id) × (table_in (changed change own tables) id ≡ change (table_in tables id))) ⊎ ((same_id own id ≡ false) × (table_in (changed change own tables) id ≡ table_in tables id))
@@ -101,7 +100,7 @@ keeps_committed store id row rows (Some plan) keeps = at (changed_table change p
     at (inl own) = keeps_changed store (tables_committed (Some plan) rows store) id row refl (ap (λ (t : StreamTable). t.marks.floor) own.1) (λ has. subst (λ (t : StreamTable). Has row (map row_of t.rows)) (sym own.1) (rows_more (table_in store.streams id) (placed_after store.places rows) row has)) keeps
     at (inr other) = keeps_changed store (tables_committed (Some plan) rows store) id row refl (ap (λ (t : StreamTable). t.marks.floor) other.1) (λ has. subst (λ (t : StreamTable). Has row (map row_of t.rows)) (sym other.1) has) keeps
 
-merged_same : (plan : StreamPlan) (winners : List RawRow) (mark : ℕ) (table : StreamTable) (b : Bool) → plan.hidden ≡ b → ((merged_table plan winners mark table).id ≡ table.id) × ((merged_table plan winners mark table).rows ≡ table.rows) × ((merged_table plan winners mark table).marks ≡ table.marks)
+pub merged_same : (plan : StreamPlan) (winners : List RawRow) (mark : ℕ) (table : StreamTable) (b : Bool) → plan.hidden ≡ b → ((merged_table plan winners mark table).id ≡ table.id) × ((merged_table plan winners mark table).rows ≡ table.rows) × ((merged_table plan winners mark table).marks ≡ table.marks)
 merged_same plan winners mark table true is = rw is (refl, refl, refl)
 merged_same plan winners mark table false is = rw is (refl, refl, refl)
 
@@ -116,10 +115,10 @@ keeps_merged store id row winners mark (Some plan) keeps = at (changed_table (me
         (λ has. subst (λ (t : StreamTable). Has row (map row_of t.rows)) (sym own.1) (subst (λ rows. Has row (map row_of rows)) (sym same.1) has)) keeps
     at (inr other) = keeps_changed store (tables_merged (Some plan) winners mark store) id row refl (ap (λ (t : StreamTable). t.marks.floor) other.1) (λ has. subst (λ (t : StreamTable). Has row (map row_of t.rows)) (sym other.1) has) keeps
 
-shown_is : (plan : StreamPlan) (table : StreamTable) → plan.hidden ≡ true → ((shown_table plan table).rows ≡ filter (is_from (floor_of table.marks.floor plan.minimum)) table.rows) × ((shown_table plan table).marks.floor ≡ floor_of table.marks.floor plan.minimum)
+pub shown_is : (plan : StreamPlan) (table : StreamTable) → plan.hidden ≡ true → ((shown_table plan table).rows ≡ filter (is_from (floor_of table.marks.floor plan.minimum)) table.rows) × ((shown_table plan table).marks.floor ≡ floor_of table.marks.floor plan.minimum)
 shown_is plan table hides = rw hides (refl, refl)
 
-shown_id : (plan : StreamPlan) (table : StreamTable) (b : Bool) → plan.hidden ≡ b → (shown_table plan table).id ≡ table.id
+pub shown_id : (plan : StreamPlan) (table : StreamTable) (b : Bool) → plan.hidden ≡ b → (shown_table plan table).id ≡ table.id
 shown_id plan table true is = rw is refl
 shown_id plan table false is = rw is refl
 
@@ -176,8 +175,8 @@ pub keeps_first : (id : StreamId) (row : RawRow) (events : List Event) (n : ℕ)
 keeps_first id row events n rows plan run named same low has = subst (λ found. Keeps (tables_committed found rows (tables_of events)) id row) (sym named) (record {
   stands = subst (λ (t : StreamTable). Has row (map row_of t.rows)) (sym table) (subst (λ list. Has row list) (sym (map-append row_of (table_in store.streams id).rows (placed_after store.places rows))) (has_right row (map row_of (table_in store.streams id).rows) (map row_of (placed_after store.places rows)) (subst (λ list. Has row list) (sym (rows_placed store.places rows)) has)));
   plans = λ j q at own. (
-    let is : q ≡ plan = some_is (sym at ∙ (ap (λ k. plan_at store k) ((run_holds id events run).differ j n q plan at named (own ∙ sym same)) ∙ named)) in
-    (subst (λ (it : StreamPlan). it.minimum ≤ row.generation) (sym is) low, λ hides. subst (λ (t : StreamTable). t.marks.floor ≤ row.generation) (sym table) (hidden j q at own hides (subst (λ (it : StreamPlan). it.minimum ≤ row.generation) (sym is) low))));
+      let is : q ≡ plan = some_is (sym at ∙ (ap (λ k. plan_at store k) ((run_holds id events run).differ j n q plan at named (own ∙ sym same)) ∙ named)) in
+      (subst (λ (it : StreamPlan). it.minimum ≤ row.generation) (sym is) low, λ hides. subst (λ (t : StreamTable). t.marks.floor ≤ row.generation) (sym table) (hidden j q at own hides (subst (λ (it : StreamPlan). it.minimum ≤ row.generation) (sym is) low))));
 })
   where
     store : Tables

@@ -1,27 +1,23 @@
 -- Of each body before the place of a saved state some copy follows every copy of every body before it.
-use Rattle.std.proofs.Common.{arith, ◌≡◌, ◌⊎◌, inl, inr, ℕ, zero, suc, ◌+◌, ◌-◌, ◌<◌, ◌≤◌, List, [], ◌∷◌, ◌++◌, map, slice_get, Option, None, Some, Bool, true, false, cond, refl, sym, ◌∙◌, ap, subst}
-use Rattle.std.specs.Prelude.{Contains, Ok, filter, fold}
+use Rattle.std.proofs.Common.{arith, ◌≡◌, ◌⊎◌, inl, inr, ℕ, zero, suc, ◌+◌, ◌-◌, ◌<◌, ◌≤◌, List, [], ◌∷◌, map, slice_get, Some, Bool, true, false, cond, refl, sym, ◌∙◌, ap, subst}
+use Rattle.std.specs.Prelude.{filter, fold}
 use Rattle.std.specs.List.{AllByRecursion}
 use Rattle.basics.specs.declared.stream.StreamId.{StreamId}
-use Rattle.outside.specs.Event.{stored}
 use Rattle.outside.specs.declared.event.Event.{Event}
-use Rattle.outside.specs.declared.event.Event.TheVariants.{Committed}
 use Rattle.outside.specs.declared.event.RawRow.{RawRow}
 use Rattle.catalog.specs.Reading.{ids_of}
 use Rattle.catalog.specs.declared.stream.ConfStream.{ConfStream}
 use Rattle.dedup_merge.proofs.SameRowLemmas.{Has, has_from, has_to}
 use Rattle.load_rules.specs.Prefixes.{EachFits}
-use Rattle.load_rules.specs.Lines.{Reading, IsReading, is_known}
+use Rattle.load_rules.specs.Lines.{Reading}
 use Rattle.load_rules.specs.Taken.{Entry, entries, covers}
-use Rattle.load_rules.specs.Loads.{Opening, Load, loads, loads_after}
+use Rattle.load_rules.specs.Loads.{Load, loads, loads_after}
 use Rattle.load_rules.specs.Attempts.{Attempt, attempts, passed}
 use Rattle.load_rules.specs.Engine.{OpensFirst}
 use Rattle.load_rules.specs.Laws.{IsSafeAttempt}
-use Rattle.load_rules.proofs.Pipes.{MayLoad, OneLoad, NoLoad, may_load}
+use Rattle.load_rules.proofs.Pipes.{MayLoad, may_load}
 use Rattle.load_rules.proofs.SafeAttempts.{attempts_are_safe}
-use Rattle.load_rules.proofs.TakenLists.{Numbered, numbered, all_weaker}
-use Rattle.state_kinds.specs.Saved.{Saved as Set}
-use Rattle.state_kinds.specs.Store.{ReadsStore}
+use Rattle.load_rules.proofs.TakenLists.{Numbered, numbered}
 use Rattle.sync_rules.specs.SafeSync.{commits}
 use Rattle.sync_rules.proofs.Backs.{saved_reads_back}
 use Rattle.sync_rules.proofs.KindLemmas.{some_is, some_none}
@@ -31,7 +27,7 @@ use Rattle.replay_rules.specs.Laws.{SavedAreLatest}
 use Rattle.replay_rules.proofs.Chain.{Chain, chain_of}
 use Rattle.replay_rules.proofs.Committed.{Stands}
 use Rattle.replay_rules.proofs.Lines.{lane_entries}
-use Rattle.replay_rules.proofs.Numbers.{openings, opens, LoadsRise, loads_rise}
+use Rattle.replay_rules.proofs.Numbers.{LoadsRise, loads_rise}
 use Rattle.replay_rules.proofs.Sets.{done, ok_is}
 
 -- ---- the sequences of a lane's records rise
@@ -147,7 +143,7 @@ module _ (streams : List ConfStream) (read : Reading) (source : Source) (id : St
   later_attempt : (one_try earlier_try : Try) (older : List Try) (place earlier : ℕ) (row other : RawRow) → LoadsRise (map attempt_of (one_try ∷ older)) → Has earlier_try older → IsCopyOf streams read source id one_try place row → IsCopyOf streams read source id earlier_try earlier other → Follows row other
   later_attempt one_try earlier_try older place earlier row other rise has copy so =
       let less = rise.0 copy.load.opening (has_of (λ load. load.opening) copy.load (loads one_try.attempt.events) (has_from (loads one_try.attempt.events) copy.load copy.in_attempt))
-          earlier_try.attempt (has_of attempt_of earlier_try older has) so.load.opening (has_of (λ load. load.opening) so.load (loads earlier_try.attempt.events) (has_from (loads earlier_try.attempt.events) so.load so.in_attempt)) in
+      earlier_try.attempt (has_of attempt_of earlier_try older has) so.load.opening (has_of (λ load. load.opening) so.load (loads earlier_try.attempt.events) (has_from (loads earlier_try.attempt.events) so.load so.in_attempt)) in
       let x = copy.is.is.numbers.load in
       let y = so.is.is.numbers.load in
       inl (omega (arith, less, x, y))

@@ -18,3 +18,4 @@ pub mod Settled
 pub mod WellEnded
 pub mod RowCopies
 pub mod CopyRows
+pub mod Floors

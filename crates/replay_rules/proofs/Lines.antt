@@ -1,7 +1,7 @@
 -- Lines of a trace that goes on: those that were passed on, their records and states.
-use Rattle.std.proofs.Common.{arith, ◌≡◌, ◌⊎◌, inl, inr, ℕ, zero, suc, ◌+◌, ◌<◌, ◌≤◌, List, [], ◌∷◌, ◌++◌, map, drop, length, slice_get, Option, None, Some, Bool, true, false, cond, refl, sym, ◌∙◌, ap, subst, append_assoc}
-use Rattle.std.specs.Prelude.{filter, filter_map}
-use Rattle.std.proofs.lemmas.List.{append-nil, map-append}
+use Rattle.std.proofs.Common.{arith, ◌≡◌, ◌⊎◌, inl, inr, ℕ, zero, suc, ◌+◌, ◌<◌, List, [], ◌∷◌, ◌++◌, map, drop, length, slice_get, Option, None, Some, refl, sym, ◌∙◌, ap, subst, append_assoc}
+use Rattle.std.specs.Prelude.{filter}
+use Rattle.std.proofs.lemmas.List.{map-append}
 use Rattle.std.proofs.lemmas.List.Elements.{filter_map-append, filter-append}
 use Rattle.basics.specs.declared.stream.StreamId.{StreamId}
 use Rattle.outside.specs.Event.{is_links, read_in}
@@ -15,7 +15,7 @@ use Rattle.load_rules.specs.Taken.{Entry, entries, entries_from, LaneState, stat
 use Rattle.load_rules.specs.Attempts.{reads, passed}
 use Rattle.load_rules.proofs.TakenLists.{entries-append}
 use Rattle.sync_rules.proofs.KindLemmas.{has_parts, some_is, some_none}
-use Rattle.replay_rules.specs.Sources.{Body, body_told, bodies}
+use Rattle.replay_rules.specs.Sources.{body_told, bodies}
 
 -- ---- lists
 

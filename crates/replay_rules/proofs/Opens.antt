@@ -1,7 +1,7 @@
 -- The load of an attempt: where it was opened, what its plans are, and where its commits stand.
-use Rattle.std.proofs.Common.{◌≡◌, ◌⊎◌, inl, inr, ℕ, zero, suc, List, [], ◌∷◌, ◌++◌, slice_get, Option, None, Some, Bool, true, false, refl, sym, ◌∙◌, ap, subst, append_assoc, append-nil}
+use Rattle.std.proofs.Common.{◌≡◌, ◌⊎◌, inl, inr, ℕ, zero, suc, List, [], ◌∷◌, ◌++◌, slice_get, Option, None, Some, true, false, refl, sym, ◌∙◌, ap, subst, append_assoc, append-nil}
 use Rattle.std.specs.Prelude.{slice_set, fold, not, cond}
-use Rattle.std.specs.List.{AllByRecursion, list_any}
+use Rattle.std.specs.List.{list_any}
 use Rattle.std.proofs.lemmas.Bool.{cases_Bool, false≢true}
 use Rattle.std.proofs.lemmas.List.Elements.{filter-append}
 use Rattle.outside.specs.Dock.{is_opening}
@@ -19,7 +19,7 @@ use Rattle.load_rules.specs.Prefixes.{EachFits, with_first}
 use Rattle.load_rules.specs.Lines.{Reading}
 use Rattle.load_rules.specs.Loads.{Load, loads, loads_after, with_event, store_events}
 use Rattle.load_rules.specs.Attempts.{Attempt, attempts, attempts_after, attempt_with}
-use Rattle.load_rules.specs.Engine.{HasOpened, OpensFirst, OpensByCatalog, RunFits, RunFitsIn}
+use Rattle.load_rules.specs.Engine.{HasOpened, OpensByCatalog, RunFits, RunFitsIn}
 use Rattle.load_rules.specs.Laws.{is_started}
 use Rattle.load_rules.proofs.LoadFronts.{goes_on as loads_go_on}
 use Rattle.load_rules.proofs.SafeAttempts.{loads_link, loads_own, none_opened}

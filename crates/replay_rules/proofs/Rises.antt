@@ -1,11 +1,10 @@
 -- The states that an attempt's sets take rise within each lane.
-use Rattle.std.proofs.Common.{arith, ◌≡◌, ◌⊎◌, inl, inr, ℕ, ◌<◌, List, [], ◌∷◌, ◌++◌, length, Option, None, Some, Bool, true, false, cond, refl, sym, ◌∙◌, ap, subst, append_assoc, append-nil}
+use Rattle.std.proofs.Common.{◌≡◌, ◌⊎◌, inl, inr, ℕ, List, [], ◌∷◌, ◌++◌, Option, None, Some, Bool, true, false, cond, refl, sym, ◌∙◌, ap, subst, append_assoc, append-nil}
 use Rattle.std.specs.Prelude.{Ok, filter, option_map, Contains, ◌||◌}
 use Rattle.std.specs.List.{AllByRecursion, list_any}
 use Rattle.std.proofs.lemmas.Bool.{false≢true}
 use Rattle.std.proofs.lemmas.List.Elements.{filter-append}
-use Rattle.outside.specs.Event.{is_links, saved_in, stored}
-use Rattle.outside.specs.declared.event.AttemptPlan.{AttemptPlan}
+use Rattle.outside.specs.Event.{is_links, saved_in}
 use Rattle.outside.specs.declared.event.Event.{Event}
 use Rattle.outside.specs.declared.event.Event.TheVariants.{Opened, Took, TookEnd, Committed, Emitted, Merged, Shown, Started, ReadLine, ReadEnd, Given, Closed, Got, GotEnd, Saved, Ended}
 use Rattle.airbyte_message.specs.Lanes.{Lane}
@@ -13,18 +12,17 @@ use Rattle.airbyte_message.specs.State.{State}
 use Rattle.catalog.specs.Reading.{ids_of}
 use Rattle.catalog.specs.declared.stream.ConfStream.{ConfStream}
 use Rattle.catalog.specs.declared.stream.Gen.{Gen}
-use Rattle.load_rules.specs.Lines.{Line, Reading, line_read, state_in}
+use Rattle.load_rules.specs.Lines.{Reading, line_read, state_in}
 use Rattle.load_rules.specs.Taken.{LaneState, is_same_lane, of_lane, state_of, states}
-use Rattle.load_rules.specs.Attempts.{Waiting, none_given, with_given, TakesFirst, StateLeaves, LineLeaves, Leaves, LeavesAll, TakesState, passed}
+use Rattle.load_rules.specs.Attempts.{Waiting, none_given, StateLeaves, LineLeaves, Leaves, LeavesAll, TakesState, passed}
 use Rattle.load_rules.specs.Laws.{is_started}
 use Rattle.load_rules.proofs.Machines.{lane_is}
 use Rattle.load_rules.proofs.TakenLists.{all_append, all_weaker}
 use Rattle.state_kinds.specs.Saved.{Saved as Set}
 use Rattle.state_kinds.specs.Changes.{put_into}
-use Rattle.state_kinds.specs.Texts.{store_text}
 use Rattle.sync_rules.specs.Generations.{Begins}
-use Rattle.sync_rules.specs.Sync.{Running, Sync, no_sync, Takes, and_event, started, got, saved, with_event}
-use Rattle.sync_rules.specs.Steps.{Step, Starts, Saves, Puts, Gets, InAttempt}
+use Rattle.sync_rules.specs.Sync.{Running, Sync, no_sync, Takes, and_event, got}
+use Rattle.sync_rules.specs.Steps.{Saves, Puts, Gets, InAttempt}
 use Rattle.sync_rules.specs.SafeSync.{Asked, Goes, Leads, IsAsked}
 use Rattle.sync_rules.proofs.KindLemmas.{some_is, some_none}
 use Rattle.sync_rules.proofs.Rising.{taken_rise}

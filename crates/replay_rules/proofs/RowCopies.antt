@@ -1,22 +1,18 @@
 -- Every committed row is a copy of a body of the source.
-use Rattle.std.proofs.Common.{arith, ◌≡◌, ◌⊎◌, inl, inr, ℕ, zero, suc, ◌+◌, ◌-◌, ◌<◌, ◌≤◌, List, [], ◌∷◌, ◌++◌, map, drop, length, slice_get, Option, None, Some, Bool, true, false, cond, refl, sym, ◌∙◌, ap, subst, append_assoc, append-nil}
-use Rattle.std.specs.Prelude.{filter, filter_map, fold, is_none, not, Contains}
+use Rattle.std.proofs.Common.{arith, ◌≡◌, ◌⊎◌, inl, inr, ℕ, ◌+◌, List, [], ◌∷◌, ◌++◌, map, length, Option, None, Some, Bool, true, false, cond, refl, sym, ◌∙◌, ap, subst, append_assoc, append-nil}
+use Rattle.std.specs.Prelude.{filter, filter_map, is_none, not}
 use Rattle.std.specs.Fmt.{decimal}
 use Rattle.std.specs.List.{AllByRecursion}
-use Rattle.std.proofs.lemmas.Bool.{cases_Bool, false≢true}
 use Rattle.std.proofs.lemmas.List.{map-append}
 use Rattle.std.proofs.lemmas.List.Elements.{filter_map-append}
 use Rattle.basics.specs.declared.stream.StreamId.{StreamId}
-use Rattle.outside.proofs.TableLaws.{id_own}
 use Rattle.outside.specs.Event.{is_links, given_in, read_over, took_in}
 use Rattle.outside.specs.declared.event.Event.{Event}
 use Rattle.outside.specs.declared.event.Event.TheVariants.{Opened, Took, TookEnd, Committed, Emitted, Merged, Shown, Started, ReadLine, ReadEnd, Given, Closed, Got, GotEnd, Saved, Ended}
 use Rattle.outside.specs.declared.event.RawRow.{RawRow}
-use Rattle.airbyte_message.specs.Lanes.{Lane, one, all}
 use Rattle.airbyte_message.specs.Messages.{IsMessage}
 use Rattle.airbyte_message.specs.declared.message.Message.{Message}
 use Rattle.airbyte_message.specs.declared.message.Message.TheVariants as message
-use Rattle.airbyte_message.specs.declared.message.RecordMsg.{RecordMsg}
 use Rattle.airbyte_message.specs.declared.message.TraceMsg.TheVariants as trace
 use Rattle.airbyte_message.specs.declared.stream_status.StreamStatus.TheVariants.{Complete}
 use Rattle.json_fields.specs.Answer.{IsAnswer}
@@ -26,41 +22,31 @@ use Rattle.message_writer.specs.Forms.{HasNames}
 use Rattle.message_writer.proofs.Payloads.{written_is}
 use Rattle.catalog.specs.Reading.{ids_of}
 use Rattle.catalog.specs.declared.stream.ConfStream.{ConfStream}
-use Rattle.dedup_merge.proofs.SameRowLemmas.{Has, has_from, has_to, has_passed}
+use Rattle.dedup_merge.proofs.SameRowLemmas.{Has, has_passed}
 use Rattle.load_rules.specs.Prefixes.{EachFits, IsPrefix, with_first}
-use Rattle.load_rules.specs.Lines.{Line, Reading, IsReading, ReadsText, ReadsEvent, line_read, lines_read, record_in, passes, is_known}
-use Rattle.load_rules.specs.Taken.{Entry, and_record, entries, entries_from, covers, is_in, LaneState}
-use Rattle.load_rules.specs.Loads.{Opening, Load, loads, tooks}
+use Rattle.load_rules.specs.Lines.{Line, Reading, ReadsText, ReadsEvent, line_read, lines_read, record_in, passes}
+use Rattle.load_rules.specs.Taken.{Entry, and_record, entries, entries_from, is_in}
+use Rattle.load_rules.specs.Loads.{Opening, Load, tooks}
 use Rattle.load_rules.specs.Rows.{IsRowOf}
 use Rattle.load_rules.specs.Acts.{Act, Takes, Ends, Commits, Echoes, Turns, IsAct, AreActs, line_of, taken, committed}
-use Rattle.load_rules.specs.SafeDest.{AreRowsOf, CommitFits, Fits, uncommitted, IsSafeLoad}
+use Rattle.load_rules.specs.SafeDest.{AreRowsOf, Fits, uncommitted, IsSafeLoad}
 use Rattle.load_rules.specs.Finished.{last_status}
 use Rattle.load_rules.specs.Attempts.{Attempt, attempts, attempts_after, attempt_with, reads, gives, passed}
-use Rattle.load_rules.specs.Engine.{OpensFirst}
-use Rattle.load_rules.specs.Laws.{is_started, IsSafeAttempt, TakeFits}
+use Rattle.load_rules.specs.Laws.{TakeFits}
 use Rattle.load_rules.proofs.Fronts.{each_at}
-use Rattle.load_rules.proofs.OwnRows.{filter_contains}
-use Rattle.load_rules.proofs.Pipes.{acts_taken, MayLoad, may_load}
-use Rattle.load_rules.proofs.SafeAttempts.{attempts_are_safe}
+use Rattle.load_rules.proofs.Pipes.{acts_taken}
 use Rattle.load_rules.proofs.TakenLists.{entries-append}
 use Rattle.load_rules.proofs.Twins.{bare_line, entries_alike, messages, messages_read}
-use Rattle.sync_rules.specs.Sync.{Running, Sync, no_sync, texts, completion, untold, completions, to_give}
-use Rattle.sync_rules.specs.SafeSync.{Asked, commits, Goes, IsAsked}
-use Rattle.sync_rules.specs.Laws.{Knows, KnowsAttempt, AreOrderly}
+use Rattle.sync_rules.specs.Sync.{Running, Sync, texts, completion, untold, completions, to_give}
+use Rattle.sync_rules.specs.SafeSync.{commits, Goes, IsAsked}
+use Rattle.sync_rules.specs.Laws.{Knows, KnowsAttempt}
 use Rattle.sync_rules.proofs.Giving.{GivesWell, GivesFront, well_along}
 use Rattle.sync_rules.proofs.Honest.{knows_step}
-use Rattle.sync_rules.proofs.KindLemmas.{all_has, by_bool, has_front, has_back, has_map, has_parts, heads, some_is, some_none, tails}
+use Rattle.sync_rules.proofs.KindLemmas.{all_has, has_front, has_back, has_map, heads, tails}
 use Rattle.sync_rules.proofs.Ways.{one_step}
-use Rattle.replay_rules.specs.Sources.{Body, Source, lane_for, start_of, rest_of, body_told, bodies}
-use Rattle.replay_rules.specs.Replayed.{IsReplayable}
-use Rattle.replay_rules.specs.Sound.{IsSound}
-use Rattle.replay_rules.specs.Copies.{Try, IsTry, IsCopyOf, ComesFrom, IsCommitOf, HasCopies}
-use Rattle.replay_rules.specs.Laws.{RowsAreCopies}
 use Rattle.replay_rules.proofs.Attempts.{attempts-one, by_start}
-use Rattle.replay_rules.proofs.Chain.{chain_of}
-use Rattle.replay_rules.proofs.Latest.{Tried, tried, attempt_of}
-use Rattle.replay_rules.proofs.Lines.{get_drop, get_front, get_has, lane_entries, nth_body, reads_links}
-use Rattle.replay_rules.proofs.SavedBack.{AreAll, EventsAre, attempts_are}
+use Rattle.replay_rules.proofs.Lines.{reads_links}
+use Rattle.replay_rules.proofs.SavedBack.{AreAll}
 use Rattle.replay_rules.proofs.StepKinds.{goes_on}
 use Rattle.replay_rules.proofs.WellEnded.{gives_links, over_links, reread}
 
@@ -231,7 +217,7 @@ pub taken_entry : (read : Reading) (events : List Event) (entry : Entry) → Has
 taken_entry read events entry (rest, whole) has =
     let lines : List Line = lines_read read (tooks events) ++ map bare_line rest in
     let same : messages lines ≡ messages (lines_read read (gives events)) =
-        filter_map-append (λ line. line.found) (lines_read read (tooks events)) (map bare_line rest) ∙ (ap (λ list. list ++ messages (map bare_line rest)) (messages_read read (tooks events)) ∙ (ap (λ list. filter_map read (tooks events) ++ list) (bare_back rest) ∙ (sym whole ∙ sym (messages_read read (gives events))))) in
+    filter_map-append (λ line. line.found) (lines_read read (tooks events)) (map bare_line rest) ∙ (ap (λ list. list ++ messages (map bare_line rest)) (messages_read read (tooks events)) ∙ (ap (λ list. filter_map read (tooks events) ++ list) (bare_back rest) ∙ (sym whole ∙ sym (messages_read read (gives events))))) in
     subst (Has entry) (entries_alike lines (lines_read read (gives events)) same)
     (subst (Has entry) (sym (entries-append 0 (lines_read read (tooks events)) (map bare_line rest))) (has_front entry (entries (lines_read read (tooks events))) (entries_from (0 + length (entries (lines_read read (tooks events)))) (map bare_line rest)) has))
 

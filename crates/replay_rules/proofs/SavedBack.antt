@@ -1,20 +1,19 @@
 -- Each body before the place of a saved state is committed.
-use Rattle.std.proofs.Common.{arith, ◌≡◌, ◌⊎◌, inl, inr, ℕ, ◌+◌, ◌-◌, ◌<◌, ◌≤◌, List, [], ◌∷◌, ◌++◌, slice_get, drop, Some, Bool, true, false, cond, refl, sym, ◌∙◌, ap, subst}
-use Rattle.std.specs.Prelude.{Contains, Ok, fold, filter, not}
+use Rattle.std.proofs.Common.{arith, ◌≡◌, ◌⊎◌, inl, inr, ℕ, ◌+◌, ◌-◌, ◌<◌, ◌≤◌, List, [], ◌∷◌, ◌++◌, slice_get, Some, true, refl, sym, ◌∙◌, ap, subst}
+use Rattle.std.specs.Prelude.{Ok, fold, not}
 use Rattle.std.specs.List.{AllByRecursion}
 use Rattle.basics.specs.declared.stream.StreamId.{StreamId}
-use Rattle.outside.specs.Event.{is_links, stored}
+use Rattle.outside.specs.Event.{is_links}
 use Rattle.outside.specs.declared.event.Event.{Event}
 use Rattle.outside.specs.declared.event.Event.TheVariants.{Opened, Took, TookEnd, Committed, Emitted, Merged, Shown, Started, ReadLine, ReadEnd, Given, Closed, Got, GotEnd, Saved, Ended}
 use Rattle.catalog.specs.Reading.{ids_of}
 use Rattle.catalog.specs.declared.stream.ConfStream.{ConfStream}
 use Rattle.dedup_merge.proofs.SameRowLemmas.{Has, has_from, has_to, has_passed}
 use Rattle.load_rules.specs.Prefixes.{with_first}
-use Rattle.load_rules.specs.Lines.{Reading, IsReading, is_known}
+use Rattle.load_rules.specs.Lines.{Reading, is_known}
 use Rattle.load_rules.specs.Loads.{Load, loads, loads_after, with_event, store_events}
 use Rattle.load_rules.specs.Attempts.{Attempt, attempts, attempts_after, attempt_with, passed}
 use Rattle.state_kinds.specs.Saved.{Saved as Set}
-use Rattle.state_kinds.specs.Store.{ReadsStore}
 use Rattle.sync_rules.specs.SafeSync.{commits}
 use Rattle.sync_rules.proofs.Backs.{saved_reads_back}
 use Rattle.sync_rules.proofs.KindLemmas.{all_has, has_parts, some_is}

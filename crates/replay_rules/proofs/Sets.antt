@@ -1,6 +1,6 @@
 -- What the beginning of an attempt, and a state that is put, do to the states of a set.
-use Rattle.std.proofs.Common.{◌≡◌, ◌⊎◌, inl, inr, ℕ, List, [], ◌∷◌, ◌++◌, map, find, Option, None, Some, Bool, true, false, cond, refl, sym, ◌∙◌, ap, subst}
-use Rattle.std.specs.Prelude.{filter, not, option_map, option_and_then, is_some, Result, Ok, Err, ◌==◌}
+use Rattle.std.proofs.Common.{◌≡◌, ◌⊎◌, inl, inr, ℕ, List, [], ◌∷◌, ◌++◌, map, Option, None, Some, Bool, true, false, cond, refl, sym, ◌∙◌, ap, subst}
+use Rattle.std.specs.Prelude.{filter, not, option_and_then, is_some, Result, Ok, Err, ◌==◌}
 use Rattle.std.specs.List.{list_any}
 use Rattle.std.proofs.lemmas.Bool.{false≢true}
 use Rattle.basics.specs.declared.stream.StreamId.{StreamId}
@@ -14,8 +14,8 @@ use Rattle.outside.specs.declared.faults.StateFault.{StateFault}
 use Rattle.outside.specs.declared.faults.StateFault.TheVariants as fault
 use Rattle.state_kinds.specs.declared.entry.SavedEntry.{SavedEntry}
 use Rattle.state_kinds.specs.Saved.{Saved, entry_of, state_of, entry_ids, has_states, has_stream}
-use Rattle.state_kinds.specs.Changes.{Given, renewed_to, renewed, new_entry, added, is_changed, begun, generation_of, with_state, put_stream, put_global, put_kind, put_into}
-use Rattle.sync_rules.proofs.KindLemmas.{by_bool, some_none, some_is}
+use Rattle.state_kinds.specs.Changes.{Given, renewed_to, renewed, new_entry, added, is_changed, begun, generation_of, with_state, put_kind, put_into}
+use Rattle.sync_rules.proofs.KindLemmas.{by_bool}
 use Rattle.replay_rules.specs.Sources.{held_in}
 
 -- of an entry, its state

@@ -1,47 +1,42 @@
 -- What an attempt that ends well has read, given and committed.
-use Rattle.std.proofs.Common.{arith, ◌≡◌, ◌⊎◌, inl, inr, ℕ, ◌+◌, ◌<◌, List, [], ◌∷◌, ◌++◌, map, length, Option, None, Some, Bool, true, false, cond, refl, sym, ◌∙◌, ap, subst, append_assoc, append-nil}
-use Rattle.std.specs.Prelude.{filter, filter_map, fold, not, option_map, Contains, ◌||◌}
+use Rattle.std.proofs.Common.{◌≡◌, ◌⊎◌, inl, inr, ℕ, List, [], ◌∷◌, ◌++◌, Option, None, Some, Bool, true, false, refl, sym, ◌∙◌, ap, subst, append_assoc, append-nil}
+use Rattle.std.specs.Prelude.{filter, fold, not, option_map, ◌||◌}
 use Rattle.std.specs.List.{AllByRecursion, list_any}
-use Rattle.std.proofs.lemmas.Bool.{cases_Bool, false≢true}
-use Rattle.std.proofs.lemmas.List.{map-append}
-use Rattle.std.proofs.lemmas.List.Elements.{filter_map-append, filter-append}
+use Rattle.std.proofs.lemmas.Bool.{false≢true}
+use Rattle.std.proofs.lemmas.List.Elements.{filter_map-append}
 use Rattle.std.proofs.lemmas.List.Folds.{list_any-append}
-use Rattle.std.proofs.lemmas.List.Sums.{fold-append}
-use Rattle.basics.specs.declared.stream.StreamId.{StreamId}
-use Rattle.outside.specs.Event.{is_links, read_in, given_in, read_over, read_over_after}
+use Rattle.outside.specs.Event.{read_in, given_in, read_over_after}
 use Rattle.outside.specs.declared.event.Codes.{Codes}
 use Rattle.outside.specs.declared.event.Event.{Event}
 use Rattle.outside.specs.declared.event.Event.TheVariants.{Opened, Took, TookEnd, Committed, Emitted, Merged, Shown, Started, ReadLine, ReadEnd, Given, Closed, Got, GotEnd, Saved, Ended}
-use Rattle.outside.specs.declared.event.Exit.{Exit}
-use Rattle.outside.specs.declared.event.Exit.TheVariants.{Code, Signal}
+use Rattle.outside.specs.declared.event.Exit.TheVariants.{Code}
 use Rattle.outside.specs.declared.event.RawRow.{RawRow}
 use Rattle.catalog.specs.declared.stream.ConfStream.{ConfStream}
 use Rattle.dedup_merge.proofs.SameRowLemmas.{Has, has_from, has_to}
 use Rattle.load_rules.specs.Prefixes.{EachFits, with_first}
-use Rattle.load_rules.specs.Lines.{Line, Reading, line_read, lines_read, passes}
-use Rattle.load_rules.specs.Taken.{Entry, entries, entries_from, is_in, LaneState}
-use Rattle.load_rules.specs.Loads.{Load, loads, store_events, tooks, held_in}
-use Rattle.load_rules.specs.Acts.{Act, Takes, Ends, Commits, Echoes, Turns, IsAct, AreActs, taken, committed}
-use Rattle.load_rules.specs.SafeDest.{uncommitted, IsSafeLoad, IsSafeDest}
-use Rattle.load_rules.specs.Attempts.{Attempt, attempts, attempts_after, attempt_with, reads, gives, passed}
+use Rattle.load_rules.specs.Lines.{Reading, lines_read}
+use Rattle.load_rules.specs.Taken.{Entry, entries, is_in, LaneState}
+use Rattle.load_rules.specs.Loads.{Load, loads, tooks, held_in}
+use Rattle.load_rules.specs.Acts.{Act, Commits, IsAct, AreActs, taken, committed}
+use Rattle.load_rules.specs.SafeDest.{uncommitted, IsSafeLoad}
+use Rattle.load_rules.specs.Attempts.{Attempt, attempts, attempts_after, attempt_with, reads, gives}
 use Rattle.load_rules.specs.Honest.{IsCommitted}
 use Rattle.load_rules.specs.Engine.{is_ended, is_closed, StandsBeforeEnded, OpensFirst, RunFits, RunFitsIn, AttemptFits, IsEngineRun}
 use Rattle.load_rules.specs.Engine as engine
-use Rattle.load_rules.specs.Laws.{is_started, IsOwnRow, IsSafeAttempt}
+use Rattle.load_rules.specs.Laws.{is_started, IsSafeAttempt}
 use Rattle.load_rules.proofs.Held.{held_are_uncommitted}
-use Rattle.load_rules.proofs.LoadFronts.{fronts_are_safe}
 use Rattle.load_rules.proofs.OwnRows.{rows_are_own}
-use Rattle.load_rules.proofs.Pipes.{acts_taken, MayLoad, OneLoad, may_load}
+use Rattle.load_rules.proofs.Pipes.{acts_taken, MayLoad, may_load}
 use Rattle.load_rules.proofs.SafeAttempts.{attempts_are_safe, none_opened}
 use Rattle.load_rules.proofs.RunFronts.{fronts_are_runs}
 use Rattle.load_rules.proofs.Twins.{entries_alike, messages_read}
-use Rattle.sync_rules.specs.Sync.{Running, Sync, no_sync, and_event, texts}
+use Rattle.sync_rules.specs.Sync.{Running, Sync, and_event}
 use Rattle.sync_rules.specs.Steps.{Step, InAttempt, ReadsOn, Gets}
 use Rattle.sync_rules.specs.SafeSync.{Asked, Goes, IsAsked}
-use Rattle.sync_rules.proofs.KindLemmas.{by_bool, has_front, has_parts, or_left, or_right}
+use Rattle.sync_rules.proofs.KindLemmas.{by_bool, has_parts, or_left, or_right}
 use Rattle.replay_rules.proofs.Attempts.{attempts-one, by_start}
 use Rattle.replay_rules.proofs.Committed.{committed_on}
-use Rattle.replay_rules.proofs.Opens.{InLoad, MayHaveLoad, HasLoad, has_load}
+use Rattle.replay_rules.proofs.Opens.{MayHaveLoad, HasLoad, has_load}
 use Rattle.replay_rules.proofs.StepKinds.{goes_on}
 
 heads : {A : Type 0} {x y : A} {xs ys : List A} → x ∷ xs ≡ y ∷ ys → x ≡ y

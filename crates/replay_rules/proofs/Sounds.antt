@@ -1,6 +1,6 @@
 -- How sound traces go on, and their fronts.
-use Rattle.std.proofs.Common.{arith, ◌≡◌, ◌⊎◌, inl, inr, ℕ, ◌<◌, ◌+◌, ◌==◌, List, [], ◌∷◌, ◌++◌, map, length, Option, None, Some, Bool, true, false, cond, refl, sym, ◌∙◌, ap, subst, append_assoc, append-nil}
-use Rattle.std.specs.Prelude.{fold, filter, filter_map, not, Contains}
+use Rattle.std.proofs.Common.{arith, ◌≡◌, ◌⊎◌, inl, inr, ◌+◌, List, [], ◌∷◌, ◌++◌, map, length, Bool, true, false, cond, refl, sym, ◌∙◌, ap, subst, append_assoc, append-nil}
+use Rattle.std.specs.Prelude.{fold, filter, filter_map, not}
 use Rattle.std.specs.List.{AllByRecursion, list_any, take_while}
 use Rattle.std.proofs.lemmas.Bool.{false≢true}
 use Rattle.std.proofs.lemmas.List.{map-append}
@@ -8,7 +8,6 @@ use Rattle.std.proofs.lemmas.List.Elements.{filter_map-append}
 use Rattle.std.proofs.lemmas.List.Sums.{fold-append, take_while-cons}
 use Rattle.basics.specs.declared.stream.StreamId.{StreamId}
 use Rattle.outside.specs.Event.{is_links, read_in, read_over, read_over_after}
-use Rattle.outside.specs.declared.event.AttemptPlan.{AttemptPlan}
 use Rattle.outside.specs.declared.event.Codes.{Codes}
 use Rattle.outside.specs.declared.event.Event.{Event}
 use Rattle.outside.specs.declared.event.Event.TheVariants.{Opened, Took, TookEnd, Committed, Emitted, Merged, Shown, Started, ReadLine, ReadEnd, Given, Closed, Got, GotEnd, Saved, Ended}
@@ -17,30 +16,27 @@ use Rattle.catalog.specs.Reading.{ids_of}
 use Rattle.catalog.specs.declared.stream.ConfStream.{ConfStream}
 use Rattle.dedup_merge.proofs.SameRowLemmas.{Has, has_from, has_to}
 use Rattle.load_rules.specs.Prefixes.{EachFits, IsPrefix, with_first}
-use Rattle.load_rules.specs.Lines.{Line, Reading, lines_read, is_known, passes}
-use Rattle.load_rules.specs.Taken.{Entry, entries, entries_from, covers, LaneState, states, states_behind}
+use Rattle.load_rules.specs.Lines.{Line, Reading, lines_read, passes}
+use Rattle.load_rules.specs.Taken.{Entry, entries, entries_from, covers, states, states_behind}
 use Rattle.load_rules.specs.Loads.{store_events}
 use Rattle.load_rules.specs.Finished.{last_status}
 use Rattle.load_rules.specs.Attempts.{Attempt, attempts, attempts_after, attempt_with, reads, passed}
-use Rattle.load_rules.specs.Engine.{is_ended, StandsBeforeEnded, RunFits, RunFitsIn, IsEngineRun}
+use Rattle.load_rules.specs.Engine.{is_ended, StandsBeforeEnded, RunFits, RunFitsIn}
 use Rattle.load_rules.specs.Laws.{is_started}
 use Rattle.load_rules.proofs.Fronts.{each_at, each_front}
 use Rattle.load_rules.proofs.RunFronts.{fronts_are_runs}
 use Rattle.load_rules.proofs.TakenLists.{all_append, all_weaker, each_more, states-append}
-use Rattle.state_kinds.specs.Saved.{Saved as Set}
-use Rattle.state_kinds.specs.Texts.{states_text}
-use Rattle.state_kinds.specs.Writable.{IsWritable}
 use Rattle.sync_rules.specs.Sync.{Sync, no_sync}
-use Rattle.sync_rules.specs.Calls.{Call, Called, Standing, CallGoes, CallStep, HasStarted, called_after, called_at, standing_after, begins_next}
-use Rattle.sync_rules.specs.SafeSync.{Asked, commits, nothing, Leads}
+use Rattle.sync_rules.specs.Calls.{Call, Called, Standing, CallGoes, HasStarted, called_at, standing_after, begins_next}
+use Rattle.sync_rules.specs.SafeSync.{commits, nothing}
 use Rattle.sync_rules.proofs.CallLemmas.{calls_lead}
 use Rattle.sync_rules.proofs.Honest.{ways_know}
 use Rattle.sync_rules.proofs.HonestCalls.{honest_calls_are_safe}
-use Rattle.sync_rules.proofs.KindLemmas.{all_front, any_front, by_bool, has_front, has_parts, or_left, or_right}
+use Rattle.sync_rules.proofs.KindLemmas.{all_front, by_bool, has_front, has_parts, or_left, or_right}
 use Rattle.sync_rules.proofs.Ways.{fronts_are_safe, ways_join}
 use Rattle.replay_rules.specs.Sources.{Body, Source, lane_for, rest_of, body_told, bodies}
-use Rattle.replay_rules.specs.Replayed.{IsFine, IsPlaced, IsReadOut, IsReplayedFrom, IsReplayable}
-use Rattle.replay_rules.specs.Sound.{BeginsUnopened, IsSound}
+use Rattle.replay_rules.specs.Replayed.{IsFine, IsPlaced, IsReadOut, IsReplayable}
+use Rattle.replay_rules.specs.Sound.{BeginsUnopened}
 use Rattle.replay_rules.specs.Laws.{CallsStaySound, FrontsAreSound}
 use Rattle.replay_rules.proofs.Attempts.{attempts-one, by_start, front_back}
 use Rattle.replay_rules.proofs.StepKinds.{goes_on}
@@ -168,8 +164,8 @@ once_back ids read source attempt event none (replayable, once) = (back, each_fr
           placed = all_front (IsPlaced source set) (states (passed ids read attempt.events)) (states_behind (passed ids read attempt.events) (passed ids read (event ∷ [])))
               (subst (AllByRecursion (IsPlaced source set)) (ap states parted ∙ states-append [] (passed ids read attempt.events) (passed ids read (event ∷ []))) is.placed);
           whole = λ id known out. (
-            let quiet = quiet_behind attempt.events event none (ended_any attempt.events out.codes (has_from attempt.events (Ended out.codes) out.ended)) (each_at StandsBeforeEnded [] attempt.events [] event once) in
-            ap (bodies (lane_for source id)) (sym (passed_quiet ids read attempt.events event quiet)) ∙ is.whole id known (read_out_on ids read (lane_for source id) attempt.events event quiet out));
+              let quiet = quiet_behind attempt.events event none (ended_any attempt.events out.codes (has_from attempt.events (Ended out.codes) out.ended)) (each_at StandsBeforeEnded [] attempt.events [] event once) in
+              ap (bodies (lane_for source id)) (sym (passed_quiet ids read attempt.events event quiet)) ∙ is.whole id known (read_out_on ids read (lane_for source id) attempt.events event quiet out));
         }
 
 unopened_front : (front rest : List Event) → BeginsUnopened (front ++ rest) → BeginsUnopened front

@@ -1,19 +1,17 @@
 -- What the states that an attempt's sets take cover stands in the store's tables, in the generation that the sets have.
-use Rattle.std.proofs.Common.{arith, ◌≡◌, ◌⊎◌, inl, inr, ℕ, ◌≤◌, List, [], ◌∷◌, ◌++◌, map, slice_get, Option, None, Some, Bool, true, false, refl, sym, ◌∙◌, ap, subst, append_assoc, append-nil}
-use Rattle.std.specs.Prelude.{Ok, fold, Contains, ◌||◌}
+use Rattle.std.proofs.Common.{arith, ◌≡◌, inl, inr, ℕ, List, [], ◌∷◌, ◌++◌, map, slice_get, Some, Bool, true, false, refl, sym, ◌∙◌, ap, subst, append_assoc, append-nil}
+use Rattle.std.specs.Prelude.{fold, ◌||◌}
 use Rattle.std.specs.List.{AllByRecursion, list_any}
 use Rattle.std.proofs.lemmas.Bool.{false≢true}
 use Rattle.std.proofs.lemmas.List.Sums.{fold-append}
 use Rattle.basics.specs.declared.stream.StreamId.{StreamId}
-use Rattle.outside.specs.Tables.{tables_of, tables_after, table_in, row_of}
+use Rattle.outside.specs.Tables.{tables_of, table_in, row_of}
 use Rattle.outside.specs.declared.event.AttemptPlan.{AttemptPlan}
 use Rattle.outside.specs.declared.event.Event.{Event}
-use Rattle.outside.specs.declared.event.Event.TheVariants.{Opened, Took, TookEnd, Committed, Emitted, Merged, Shown, Started, ReadLine, ReadEnd, Given, Closed, Got, GotEnd, Saved, Ended}
-use Rattle.outside.specs.declared.event.RawRow.{RawRow}
+use Rattle.outside.specs.declared.event.Event.TheVariants.{Committed, Started}
 use Rattle.outside.specs.declared.event.StreamPlan.{StreamPlan}
 use Rattle.raw_tables.proofs.StoreLaws.{tables_more}
 use Rattle.catalog.specs.Configured.{AreConfigured}
-use Rattle.catalog.specs.Reading.{ids_of}
 use Rattle.catalog.specs.Written.{IsCatalogText}
 use Rattle.catalog.specs.declared.stream.ConfStream.{ConfStream}
 use Rattle.catalog.specs.declared.stream.Gen.{Gen}
@@ -22,26 +20,23 @@ use Rattle.load_rules.specs.Prefixes.{EachFits}
 use Rattle.load_rules.specs.Lines.{Reading}
 use Rattle.load_rules.specs.Taken.{Entry, entries, covers, LaneState}
 use Rattle.load_rules.specs.Loads.{Opening, Load, loads, loads_after}
-use Rattle.load_rules.specs.Rows.{IsRowOf}
 use Rattle.load_rules.specs.Stores.{StoreFits}
 use Rattle.load_rules.specs.Attempts.{Attempt, attempts, attempts_after, attempt_events}
 use Rattle.load_rules.specs.Honest.{IsCommitted}
 use Rattle.load_rules.specs.Engine.{IsEngineRun}
 use Rattle.load_rules.specs.Laws.{is_started}
-use Rattle.load_rules.proofs.Fronts.{each_front}
 use Rattle.load_rules.proofs.RunFronts.{fronts_are_runs}
 use Rattle.load_rules.proofs.TakenLists.{all_weaker}
 use Rattle.state_kinds.specs.Saved.{Saved as Set}
 use Rattle.sync_rules.specs.Generations.{Begins, generations_in, last_generation}
 use Rattle.sync_rules.specs.Sync.{Running, Sync, no_sync}
-use Rattle.sync_rules.specs.Steps.{Step, Puts}
-use Rattle.sync_rules.specs.SafeSync.{commits, Goes, Leads, IsAsked, IsCovered}
-use Rattle.sync_rules.proofs.KindLemmas.{all_has, some_is, some_none}
+use Rattle.sync_rules.specs.Steps.{Puts}
+use Rattle.sync_rules.specs.SafeSync.{commits, Goes, Leads, IsAsked}
+use Rattle.sync_rules.proofs.KindLemmas.{all_has, some_is}
 use Rattle.sync_rules.proofs.StoreLemmas.{store_holds}
 use Rattle.sync_rules.proofs.Ways.{ways_part}
 use Rattle.replay_rules.specs.Saves.{SavesFit, StandsIn, standing}
 use Rattle.replay_rules.specs.Laws.{SavesFrom, SavedStand}
-use Rattle.replay_rules.proofs.Attempts.{by_start}
 use Rattle.replay_rules.proofs.Gens.{IsGivenTo, load_given, given_fit, held_generation, put_generations, same_generations}
 use Rattle.replay_rules.proofs.Keeps.{Keeps, keeps_first, keeps_along}
 use Rattle.replay_rules.proofs.Lines.{get_has}
@@ -125,11 +120,11 @@ module _ (streams : List ConfStream) (read : Reading) (configured : AreConfigure
           let id_is : now.now.id ≡ entry.content.id = now.same.id ∙ (row.same ∙ sym row.own) in
           let run_before = fronts_are_runs streams read commit.before (Committed committed.stands.number committed.stands.rows ∷ commit.behind) (subst (IsEngineRun streams read) commit.splits run) in
           let first = keeps_first entry.content.id committed.stands.row commit.before committed.stands.number committed.stands.rows now.now run_before.loads_are.store now.named id_is (omega (arith, fit, generation, minimum))
-              (has_from committed.stands.rows committed.stands.row committed.stands.among) in
+          (has_from committed.stands.rows committed.stands.row committed.stands.among) in
           let splits : whole ≡ (commit.before ++ Committed committed.stands.number committed.stands.rows ∷ []) ++ commit.behind = commit.splits ∙ sym (append_assoc commit.before (Committed committed.stands.number committed.stands.rows ∷ []) commit.behind) in
           let keeps = keeps_along entry.content.id committed.stands.row (commit.before ++ Committed committed.stands.number committed.stands.rows ∷ []) commit.behind
-              (each_behind StoreFits [] (commit.before ++ Committed committed.stands.number committed.stands.rows ∷ []) commit.behind (subst (EachFits StoreFits []) splits run.loads_are.store)) commit.none
-              (subst (λ store. Keeps store entry.content.id committed.stands.row) (sym (tables_more commit.before (Committed committed.stands.number committed.stands.rows))) first) in
+          (each_behind StoreFits [] (commit.before ++ Committed committed.stands.number committed.stands.rows ∷ []) commit.behind (subst (EachFits StoreFits []) splits run.loads_are.store)) commit.none
+          (subst (λ store. Keeps store entry.content.id committed.stands.row) (sym (tables_more commit.before (Committed committed.stands.number committed.stands.rows))) first) in
           record {
             opening = committed.load.opening;
             number = committed.stands.number;

@@ -1,5 +1,5 @@
 -- The kinds of steps of a sync.
-use Rattle.std.proofs.Common.{◌≡◌, ℕ, List, [], ◌∷◌, ◌++◌, Bool, true, false, Option, None, Some, refl, sym, ◌∙◌, ap, subst}
+use Rattle.std.proofs.Common.{◌≡◌, ℕ, List, true, false, None, refl}
 use Rattle.outside.specs.Event.{is_links, got_in, saved_in}
 use Rattle.outside.specs.declared.event.Event.{Event}
 use Rattle.outside.specs.declared.event.Event.TheVariants.{Opened, Took, TookEnd, Committed, Emitted, Merged, Shown, Started, ReadLine, ReadEnd, Given, Closed, Got, GotEnd, Saved, Ended}
@@ -8,7 +8,7 @@ use Rattle.catalog.specs.declared.stream.ConfStream.{ConfStream}
 use Rattle.load_rules.specs.Prefixes.{with_first}
 use Rattle.load_rules.specs.Lines.{Reading}
 use Rattle.load_rules.specs.Taken.{LaneState}
-use Rattle.load_rules.specs.Attempts.{Attempt, attempts, attempts_after, attempt_with}
+use Rattle.load_rules.specs.Attempts.{Attempt, attempts_after, attempt_with}
 use Rattle.load_rules.specs.Laws.{is_started}
 use Rattle.sync_rules.specs.Sync.{Sync, started, with_event}
 use Rattle.sync_rules.specs.Steps.{Step, Starts, Saves, Gets, InAttempt}

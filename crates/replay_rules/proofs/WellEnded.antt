@@ -1,8 +1,8 @@
 -- Behind an attempt that ends well each body of the source has a latest copy.
-use Rattle.std.proofs.Common.{arith, ◌≡◌, ◌⊎◌, inl, inr, ℕ, ◌+◌, ◌-◌, ◌<◌, ◌≤◌, List, [], ◌∷◌, ◌++◌, map, drop, length, slice_get, Option, None, Some, Bool, true, false, cond, refl, sym, ◌∙◌, ap, subst, append_assoc, append-nil}
-use Rattle.std.specs.Prelude.{filter, filter_map, fold, Contains, ◌||◌}
+use Rattle.std.proofs.Common.{arith, ◌≡◌, ℕ, ◌+◌, ◌-◌, ◌<◌, ◌≤◌, List, [], ◌∷◌, ◌++◌, length, Option, None, Some, Bool, true, false, cond, refl, sym, ◌∙◌, ap, subst, append_assoc, append-nil}
+use Rattle.std.specs.Prelude.{filter, fold, ◌||◌}
 use Rattle.std.specs.List.{AllByRecursion, list_any}
-use Rattle.std.proofs.lemmas.Bool.{cases_Bool, false≢true}
+use Rattle.std.proofs.lemmas.Bool.{false≢true}
 use Rattle.std.proofs.lemmas.List.{length-drop, length-map, map-append}
 use Rattle.std.proofs.lemmas.List.Elements.{filter_map-append}
 use Rattle.std.proofs.lemmas.List.Folds.{list_any-append}
@@ -14,7 +14,7 @@ use Rattle.outside.specs.declared.event.Event.TheVariants.{Opened, Took, TookEnd
 use Rattle.catalog.specs.Reading.{ids_of}
 use Rattle.catalog.specs.declared.stream.ConfStream.{ConfStream}
 use Rattle.dedup_merge.proofs.SameRowLemmas.{Has, has_from, has_passed}
-use Rattle.load_rules.specs.Lines.{Line, Reading, IsReading, line_read, lines_read, passes, is_known}
+use Rattle.load_rules.specs.Lines.{Line, Reading, line_read, lines_read, passes, is_known}
 use Rattle.load_rules.specs.Taken.{Entry, entries, entries_from, covers}
 use Rattle.load_rules.specs.Attempts.{Attempt, attempts, reads, gives, passed}
 use Rattle.load_rules.specs.Engine.{is_closed}
@@ -22,21 +22,20 @@ use Rattle.load_rules.specs.Laws.{is_started}
 use Rattle.load_rules.proofs.SafeAttempts.{attempts_are_safe}
 use Rattle.load_rules.proofs.TakenLists.{entries-append}
 use Rattle.state_kinds.specs.Saved.{Saved as Set}
-use Rattle.sync_rules.specs.Sync.{Running, Sync, no_sync, texts, to_give, completions}
-use Rattle.sync_rules.specs.SafeSync.{commits, Leads}
-use Rattle.sync_rules.specs.Laws.{Knows, KnowsAttempt}
+use Rattle.sync_rules.specs.Sync.{Running, no_sync, texts, completions}
+use Rattle.sync_rules.specs.SafeSync.{commits}
+use Rattle.sync_rules.specs.Laws.{KnowsAttempt}
 use Rattle.sync_rules.proofs.Honest.{ways_know}
 use Rattle.sync_rules.proofs.KindLemmas.{any_back, any_filter, by_bool, has_front}
 use Rattle.replay_rules.specs.Sources.{Source, lane_for, start_of, rest_of, body_told, bodies}
 use Rattle.replay_rules.specs.Replayed.{IsReadOut, IsReplayable}
 use Rattle.replay_rules.specs.Ends.{EndsWell}
-use Rattle.replay_rules.specs.Copies.{HasLatest}
 use Rattle.replay_rules.specs.Sound.{IsSound}
 use Rattle.replay_rules.specs.Laws.{AllAreLatest}
 use Rattle.replay_rules.proofs.Chain.{Chain, chain_of}
 use Rattle.replay_rules.proofs.Committed.{Stands}
 use Rattle.replay_rules.proofs.Latest.{tried, latest_in}
-use Rattle.replay_rules.proofs.Lines.{At, at_of, get_has, lane_entries, passed_links, reads_links}
+use Rattle.replay_rules.proofs.Lines.{At, at_of, get_has, lane_entries, passed_links}
 use Rattle.replay_rules.proofs.Numbers.{loads_rise}
 use Rattle.replay_rules.proofs.Settled.{NoneLate, late_behind, late_none, over_all, LateIn, late_along, StartsNone, starts_none, CommitsAll, commits_all}
 
@@ -136,9 +135,9 @@ module _ (streams : List ConfStream) (read : Reading) (source : Source) (trace :
   given_has entry has =
       let more : List (List ℕ) = completions (ids_of streams) read front ++ gives behind in
       let all : gives ends.attempt.events ≡ texts (passed (ids_of streams) read front) ++ (completions (ids_of streams) read front ++ gives behind) =
-          sym (gives_links ends.attempt.events) ∙ (ap gives parts ∙ (filter_map-append given_in front behind ∙ (ap (λ list. list ++ gives behind) ends.through.gave_all ∙ append_assoc (texts (passed (ids_of streams) read front)) (completions (ids_of streams) read front) (gives behind)))) in
+      sym (gives_links ends.attempt.events) ∙ (ap gives parts ∙ (filter_map-append given_in front behind ∙ (ap (λ list. list ++ gives behind) ends.through.gave_all ∙ append_assoc (texts (passed (ids_of streams) read front)) (completions (ids_of streams) read front) (gives behind)))) in
       let lines : lines_read read (gives ends.attempt.events) ≡ passed (ids_of streams) read ends.attempt.events ++ lines_read read more =
-          ap (lines_read read) all ∙ (map-append (line_read read) (texts (passed (ids_of streams) read front)) more ∙ ap (λ list. list ++ lines_read read more) (reread read (λ line. passes (ids_of streams) line.found) (reads front) ∙ passed_front)) in
+      ap (lines_read read) all ∙ (map-append (line_read read) (texts (passed (ids_of streams) read front)) more ∙ ap (λ list. list ++ lines_read read more) (reread read (λ line. passes (ids_of streams) line.found) (reads front) ∙ passed_front)) in
       subst (λ list. Has entry (entries list)) (sym lines)
       (subst (Has entry) (sym (entries-append 0 (passed (ids_of streams) read ends.attempt.events) (lines_read read more)))
       (has_front entry (entries (passed (ids_of streams) read ends.attempt.events)) (entries_from (0 + length (entries (passed (ids_of streams) read ends.attempt.events))) (lines_read read more)) has))

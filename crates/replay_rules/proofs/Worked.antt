@@ -1,11 +1,10 @@
 -- The worked attempts.
-use Rattle.std.proofs.Common.{arith, ◌≡◌, ◌⊎◌, inl, inr, ℕ, ◌+◌, ◌≤◌, List, [], ◌∷◌, ◌++◌, Option, None, Some, Bool, true, false, refl, sym, ◌∙◌, ap, subst}
-use Rattle.std.specs.Prelude.{Contains, length}
+use Rattle.std.proofs.Common.{arith, ◌≡◌, ◌⊎◌, inl, inr, ℕ, ◌+◌, ◌≤◌, List, [], ◌∷◌, ◌++◌, Option, None, Some, Bool, true, false, refl, ap, subst}
+use Rattle.std.specs.Prelude.{length}
 use Rattle.std.specs.List.{AllByRecursion}
 use Rattle.std.proofs.lemmas.Bool.{false≢true}
 use Rattle.basics.specs.declared.stream.StreamId.{StreamId}
-use Rattle.outside.proofs.TableLaws.{id_is, id_own}
-use Rattle.outside.specs.declared.event.Codes.{Codes}
+use Rattle.outside.proofs.TableLaws.{id_is}
 use Rattle.outside.specs.declared.event.Event.{Event}
 use Rattle.outside.specs.declared.event.Event.TheVariants as event
 use Rattle.outside.specs.declared.event.Exit.{Exit}
@@ -17,7 +16,7 @@ use Rattle.load_rules.specs.Lines.{is_known, lines_read}
 use Rattle.load_rules.specs.Finished.{last_status}
 use Rattle.load_rules.specs.Prefixes.{IsPrefix}
 use Rattle.load_rules.specs.Attempts.{passed, reads as reads_of}
-use Rattle.state_kinds.specs.Saved.{Saved, nothing_saved}
+use Rattle.state_kinds.specs.Saved.{nothing_saved}
 use Rattle.sync_rules.specs.Examples.{held_a, held_all}
 use Rattle.sync_rules.proofs.KindLemmas.{or_cases}
 use Rattle.replay_rules.specs.Sources.{Body, Source, lane_for, rest_of, bodies}
@@ -25,7 +24,7 @@ use Rattle.replay_rules.specs.Replayed.{IsFine, IsReadOut}
 use Rattle.replay_rules.specs.Sound.{BeginsUnopened, IsSound}
 use Rattle.replay_rules.specs.Whole.{IsWhole}
 use Rattle.sync_rules.specs.Sync.{no_sync}
-use Rattle.replay_rules.specs.Examples.{tell, source_a, source_both, source_none, dedup_a, lines, ended, body, ReadsA, ReadsBoth, ReplaysAsWorked}
+use Rattle.replay_rules.specs.Examples.{tell, source_a, source_none, dedup_a, lines, ended, body, ReadsA, ReadsBoth, ReplaysAsWorked}
 
 known_a : (id : StreamId) → is_known (a ∷ []) id ≡ true → a ≡ id
 known_a id known = id_is a id (one_is (or_cases _ false known))

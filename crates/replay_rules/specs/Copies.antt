@@ -5,10 +5,9 @@ use Rattle.basics.specs.declared.stream.StreamId.{StreamId}
 use Rattle.outside.specs.declared.event.Event.{Event}
 use Rattle.outside.specs.declared.event.Event.TheVariants as event
 use Rattle.outside.specs.declared.event.RawRow.{RawRow}
-use Rattle.airbyte_message.specs.Lanes.{Lane}
 use Rattle.catalog.specs.Reading.{ids_of}
 use Rattle.catalog.specs.declared.stream.ConfStream.{ConfStream}
-use Rattle.load_rules.specs.Lines.{Line, Reading}
+use Rattle.load_rules.specs.Lines.{Reading}
 use Rattle.load_rules.specs.Taken.{Entry, entries, covers}
 use Rattle.load_rules.specs.Loads.{Load, loads}
 use Rattle.load_rules.specs.Rows.{IsRowOf}

@@ -1,7 +1,6 @@
 -- Attempts of sources that were worked by hand: which read on where they were started, and which do not.
 use Rattle.std.specs.Prelude.{◌≡◌, ℕ, List, [], ◌∷◌, ◌++◌, ◌==◌, if◌then◌else◌, true, false, Option, None, Some}
 use Rattle.basics.specs.declared.stream.StreamId.{StreamId}
-use Rattle.outside.specs.declared.event.Codes.{Codes}
 use Rattle.outside.specs.declared.event.Event.{Event}
 use Rattle.outside.specs.declared.event.Event.TheVariants as event
 use Rattle.outside.specs.declared.event.Exit.TheVariants.{Code}

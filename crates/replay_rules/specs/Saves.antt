@@ -32,7 +32,7 @@ SavesFit streams read asked taken held before (event.Saved text ∷ events) =
     (set : Saved) × (text ≡ store_text set)
     × (((gens : List Gen) × Begins streams held gens set × SavesFit streams read asked taken set (before ++ event.Saved text ∷ []) events)
     ⊎ ((state : LaneState) × Contains (states (passed (ids_of streams) read before)) state × (put_into state.state held ≡ Ok set) × asked taken set before state
-        × SavesFit streams read asked (taken ++ state ∷ []) set (before ++ event.Saved text ∷ []) events))
+    × SavesFit streams read asked (taken ++ state ∷ []) set (before ++ event.Saved text ∷ []) events))
 SavesFit streams read asked taken held before (next ∷ events) = SavesFit streams read asked taken held (before ++ next ∷ []) events
 
 -- its line stands behind those of the lane's states that were taken before

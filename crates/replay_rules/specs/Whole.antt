@@ -1,6 +1,6 @@
 -- What one uninterrupted sync leaves of a stream: its source's bodies, committed once, in order, in one load into an empty store, with
 -- the marks that this load has when it is finished.
-use Rattle.std.specs.Prelude.{◌≡◌, ℕ, ◌+◌, List, [], ◌∷◌, map, filter, nat_lt, Bool, true, false, Option, Some}
+use Rattle.std.specs.Prelude.{◌≡◌, ℕ, ◌+◌, List, [], ◌∷◌, filter, nat_lt, Bool, true, false, Option, Some}
 use Rattle.basics.specs.declared.stream.StreamId.{StreamId}
 use Rattle.outside.specs.Tables.{same_id, empty_table, opened_table, shown_table, placed_after}
 use Rattle.outside.specs.declared.event.RawRow.{RawRow}
@@ -10,7 +10,7 @@ use Rattle.raw_tables.specs.Visible.{AreSeen, seen_rows}
 use Rattle.catalog.specs.declared.stream.ConfStream.{ConfStream}
 use Rattle.catalog.specs.declared.stream.Gen.{Gen}
 use Rattle.column_types.specs.Columns.{AreColumns}
-use Rattle.column_types.specs.Rows.{RowParts, IsRow}
+use Rattle.column_types.specs.Rows.{IsRow}
 use Rattle.column_types.specs.declared.column.Column.{Column}
 use Rattle.dedup_merge.specs.Winners.{AreWinnersOf}
 use Rattle.load_rules.specs.Finished.{is_dedup}

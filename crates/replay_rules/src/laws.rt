@@ -1,6 +1,6 @@
 // The laws of retries, each as the contract of a function that does nothing.
 ghost use Rattle.replay_rules.specs.Examples.{ReplaysAsWorked};
-ghost use Rattle.replay_rules.specs.Laws.{AllAreLatest, CallsStaySound, FrontsAreSound, RowsAreCopies, SavedAreCommitted, SavedAreLatest, SavedRise, SavedStand};
+ghost use Rattle.replay_rules.specs.Laws.{AllAreLatest, CallsStaySound, FrontsAreSound, RowsAreCopies, SavedAreCommitted, SavedAreLatest, SavedRise, SavedStand, SeenAreAbove, DoneAreAbove};
 
 /// A sound trace stays sound by a call of honest attempts of the same source.
 pub fn calls_stay_sound()
@@ -40,6 +40,16 @@ pub fn saved_are_latest()
 /// Behind an attempt that ends well it is so for each body of the source.
 pub fn all_are_latest()
     ensures { AllAreLatest }
+{}
+
+/// What is to be seen of a stream is at least of every floor that it had before.
+pub fn seen_are_above()
+    ensures { SeenAreAbove }
+{}
+
+/// Where a stream's part of a load is done, it is at least of the minimum of the load's plan.
+pub fn done_are_above()
+    ensures { DoneAreAbove }
 {}
 
 /// Attempts of sources that were worked by hand.

@@ -3,4 +3,8 @@
 
 mod laws;
 
-pub use laws::{all_are_latest, calls_stay_sound, fronts_are_sound, replays_as_worked, rows_are_copies, saved_are_committed, saved_are_latest, saved_rise, saved_stand};
+pub use laws::{
+    all_are_latest, calls_stay_sound, done_are_above, fronts_are_sound, replays_as_worked,
+    rows_are_copies, saved_are_committed, saved_are_latest, saved_rise, saved_stand,
+    seen_are_above,
+};
