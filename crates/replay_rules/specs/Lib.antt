@@ -1,0 +1,9 @@
+pub mod Sources
+pub mod Replayed
+pub mod Sound
+pub mod Whole
+pub mod Saves
+pub mod Ends
+pub mod Copies
+pub mod Laws
+pub mod Examples
